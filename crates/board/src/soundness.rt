@@ -1,0 +1,53 @@
+ghost use Prim.Native.Nat.{ℕ, _<_, _≤_};
+ghost use mathlib.Core.Bool.{true};
+ghost use mathlib.Core.Path.{_≡_};
+ghost use denote.Ref.{now};
+ghost use lib.ListN.{length, getD};
+ghost use Rattle.board.specs.Rising.{rising};
+ghost use Rattle.board.specs.Table.{sound-table, sound-record};
+use crate::records::Record;
+
+// Whether the moves stay below `count` and strictly ascend.
+fn ascend_below(count: u16, moves: &[u16]) -> bool
+    ensures { λ r. ⌜ r ≡ rising count 0 (now (moves .entry)) ⌝ }
+{
+    let mut low = 0;
+    for m in moves {
+        if *m < low || *m >= count {
+            return false;
+        }
+        low = *m + 1;
+    }
+    true
+}
+
+// Whether the record keeps the limits in a table of `count` positions over these moves.
+fn keeps_limits(count: u16, record: &Record, moves: &[u16]) -> bool
+    ensures { λ r. ⌜ r ≡ sound-record count (now (moves .entry)) (now («record» .entry)) ⌝ }
+{
+    if record.side > 1 || record.label > 15 || record.count > 16 {
+        return false;
+    }
+    if record.count == 0 {
+        return true;
+    }
+    let start = record.first as usize;
+    let end = start + record.count as usize;
+    end <= moves.len() && ascend_below(count, &moves[start..end])
+}
+
+// Whether the two slices show a board.
+pub(crate) fn is_sound(records: &[Record], moves: &[u16]) -> bool
+    ensures { λ r. ⌜ r ≡ sound-table (now (records .entry)) (now (moves .entry)) ⌝ }
+{
+    if records.is_empty() || records.len() > 512 {
+        return false;
+    }
+    let count = records.len() as u16;
+    for record in records {
+        if !keeps_limits(count, record, moves) {
+            return false;
+        }
+    }
+    true
+}
