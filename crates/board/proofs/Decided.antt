@@ -24,10 +24,10 @@ rising-from n low [] first within up = refl
 rising-from n low (m ∷ ms) first within up =
     and-from (leb low m) (ltb m n && rising n (m + 1) ms) (le-leb low m (first (omega arith)))
     (and-from (ltb m n) (rising n (m + 1) ms) (lt-ltb m n (within 0 (omega arith)))
-      (rising-from n (m + 1) ms
-        (λ some. let next = up 0 (omega arith) in omega arith)
-        (λ i lt. within (suc i) (omega arith))
-        (λ i lt. rw add-one (rw add-one at (up (suc i) (omega arith))))))
+    (rising-from n (m + 1) ms
+    (λ some. let next = up 0 (omega arith) in omega arith)
+    (λ i lt. within (suc i) (omega arith))
+    (λ i lt. rw add-one (rw add-one at (up (suc i) (omega arith))))))
 
 -- a fair position's moves pass it
 pub fair-rises : (n : ℕ) (s : Spot) → Fair-spot n s → rising n 0 (s .moves) ≡ true
@@ -39,13 +39,13 @@ record-passes n ms r f inside =
     let few = f .few in
     and-from _ _ (lt-ltb (r .side) 2 (f .side-known))
     (and-from _ _ (lt-ltb (r .label) 16 (f .label-known))
-      (and-from _ _ (le-leb (r .count) 16 (omega arith))
-        (and-from _ _
-          (⊎-elim
-            (λ (some : 0 < r .count). or-right (eqb (r .count) 0) (leb (r .first + r .count) (length ms)) (le-leb (r .first + r .count) (length ms) (inside some)))
-            (λ (none : r .count ≤ 0). or-left (eqb (r .count) 0) (leb (r .first + r .count) (length ms)) (eq-eqb (r .count) 0 (omega arith)))
-            (cases-lt 0 (r .count)))
-          (fair-rises n (spot-of ms r) f))))
+    (and-from _ _ (le-leb (r .count) 16 (omega arith))
+    (and-from _ _
+    (⊎-elim
+    (λ (some : 0 < r .count). or-right (eqb (r .count) 0) (leb (r .first + r .count) (length ms)) (le-leb (r .first + r .count) (length ms) (inside some)))
+    (λ (none : r .count ≤ 0). or-left (eqb (r .count) 0) (leb (r .first + r .count) (length ms)) (eq-eqb (r .count) 0 (omega arith)))
+    (cases-lt 0 (r .count)))
+    (fair-rises n (spot-of ms r) f))))
 
 records-pass : (n : ℕ) (ms : List ℕ) (rs : List Record) → ((v : ℕ) → v < length rs → sound-record n ms (getD rs v blank-record) ≡ true) → sound-records n ms rs ≡ true
 records-pass n ms [] each = refl
@@ -59,11 +59,11 @@ sound-passes rs ms s =
     let most = s .fair .most in
     and-from (leb 1 (length rs)) _ (le-leb 1 (length rs) (omega arith))
     (and-from (leb (length rs) 512) _ (le-leb (length rs) 512 (omega arith))
-      (records-pass (length rs) ms rs (λ v lt.
-        record-passes (length rs) ms (getD rs v blank-record)
-        (subst (λ (n : ℕ). Fair-spot n (spot-of ms (getD rs v blank-record))) long
-          (subst (Fair-spot (length (map (spot-of ms) rs))) (getD-map (spot-of ms) rs v blank-record blank lt) (s .fair .each v (omega arith))))
-        (s .inside v lt))))
+    (records-pass (length rs) ms rs (λ v lt.
+    record-passes (length rs) ms (getD rs v blank-record)
+    (subst (λ (n : ℕ). Fair-spot n (spot-of ms (getD rs v blank-record))) long
+    (subst (Fair-spot (length (map (spot-of ms) rs))) (getD-map (spot-of ms) rs v blank-record blank lt) (s .fair .each v (omega arith))))
+    (s .inside v lt))))
 
 -- the test on a table decides whether it is sound
 pub decides-sound : (rs : List Record) (ms : List ℕ) → Decides (sound-table rs ms) (Sound rs ms)

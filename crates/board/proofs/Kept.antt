@@ -36,8 +36,8 @@ lies-at : (rs : List Record) (ms : List ℕ) → sound-table rs ms ≡ true → 
 lies-at rs ms h v =
     ⊎-elim
     (λ (lt : v < length rs).
-        let t = tested-at (length rs) ms rs (sound-parts rs ms h .2) v lt in
-        record { few = t .few; inside = t .inside })
+    let t = tested-at (length rs) ms rs (sound-parts rs ms h .2) v lt in
+    record { few = t .few; inside = t .inside })
     (λ (past : length rs ≤ v). no-moves ms (getD rs v blank-record) (ap (λ (r : Record). r .count) (getD-past rs v blank-record past)))
     (cases-lt v (length rs))
 

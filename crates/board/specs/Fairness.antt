@@ -116,7 +116,7 @@ bare-fair ms = record {
   some = lit≤ tt;
   most = lit≤ tt;
   each = elim [
-    zero ↦ λ lt. record { side-known = lit< tt; label-known = lit< tt; few = lit≤ tt; within = λ i l. absurd (omega arith); ascending = λ i l. absurd (omega arith) }
+    | zero ↦ λ lt. record { side-known = lit< tt; label-known = lit< tt; few = lit≤ tt; within = λ i l. absurd (omega arith); ascending = λ i l. absurd (omega arith) }
     | suc v ↦ λ lt. absurd (omega arith)
   ];
 }

@@ -1,6 +1,7 @@
 -- What a board is: the list of its positions, and the five questions that can be asked of it.
-use mathlib.Core.List.{List, []}
-use Prim.Native.Nat.{ℕ}
+use mathlib.Core.Bool.{Bool, cond}
+use mathlib.Core.List.{List, [], _∷_, _++_}
+use Prim.Native.Nat.{ℕ, _+_}
 use lib.ListN.{length, getD}
 
 -- a position (a vertex of a parity game): who moves there (its owner), its label (its priority), and where the moves (its edges) lead
@@ -36,3 +37,13 @@ moves-of b v = length (spot-at b v .moves)
 -- where move i of v leads
 abbrev pub move-of : List Spot → ℕ → ℕ → ℕ
 move-of b v i = getD (spot-at b v .moves) i 0
+
+-- every move of the board, position by position
+abbrev pub all-moves : List Spot → List ℕ
+all-moves [] = []
+all-moves (s ∷ b) = s .moves ++ all-moves b
+
+-- how many positions pass a test
+abbrev pub how-many : (Spot → Bool) → List Spot → ℕ
+how-many test [] = 0
+how-many test (s ∷ b) = cond (test s) (1 + how-many test b) (how-many test b)

@@ -3,12 +3,9 @@ mod board;
 mod records;
 mod refusals;
 
-
 pub use board::Board;
 pub use records::Record;
 pub use refusals::TableRefusal;
-
-
 
 mod soundness;
 mod table;

@@ -22,9 +22,19 @@ pub struct Table<'a> {
     ghost decided: { sound ≡ sound-table (now records) (now moves) },
 }
 
-const BARE: Record = Record { side: 1, label: 0, first: 0, count: 0 };
+const BARE: Record = Record {
+    side: 1,
+    label: 0,
+    first: 0,
+    count: 0,
+};
 
-const BLANK: Record = Record { side: 0, label: 0, first: 0, count: 0 };
+const BLANK: Record = Record {
+    side: 0,
+    label: 0,
+    first: 0,
+    count: 0,
+};
 
 impl<'a> Table<'a> {
     // The question beforehand: whether the slices are sound, or refusal 20.
@@ -44,7 +54,11 @@ impl<'a> Table<'a> {
         ensures moves { λ r. ⌜ now (r .moves) ≡ now (moves .entry) ⌝ }
     {
         let sound = is_sound(records, moves);
-        Table { records, moves, sound }
+        Table {
+            records,
+            moves,
+            sound,
+        }
     }
 
     // The record that counts at the position, or the blank one where there is none.
@@ -71,7 +85,11 @@ pub impl<'a> Board for Table<'a> as TableBoard {
     ghost fair = { λ t. board-of-fair (now (t .records)) (now (t .moves)) };
 
     fn count(&self) -> u16 {
-        if self.sound { self.records.len() as u16 } else { 1 }
+        if self.sound {
+            self.records.len() as u16
+        } else {
+            1
+        }
     }
 
     fn side(&self, position: u16) -> u8 {

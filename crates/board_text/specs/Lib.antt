@@ -1,0 +1,6 @@
+pub mod Refusals
+pub mod Digits
+pub mod Text
+pub mod Verdict
+pub mod Reading
+pub mod Writing
