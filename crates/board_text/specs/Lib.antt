@@ -1,5 +1,6 @@
 pub mod Refusals
 pub mod Digits
+pub mod Put
 pub mod Text
 pub mod Verdict
 pub mod Reading
