@@ -1,1 +1,4 @@
+pub mod Advance
+pub mod Fours
+pub mod Numbered
 pub mod Puts

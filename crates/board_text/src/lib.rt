@@ -1,5 +1,7 @@
 // Board text: the reader, the writer, and the two of them joined.
 mod digits;
+mod lines;
+mod parts;
 mod refusals;
 
 pub use refusals::TextRefusal;

@@ -1,0 +1,96 @@
+ghost use Prim.Native.Nat.{_+_, _≤_, _<_};
+ghost use denote.Ref.{now};
+ghost use lib.ListN.{length, drop};
+ghost use mathlib.Core.Bool.{Bool};
+ghost use mathlib.Core.List.{List};
+ghost use mathlib.Core.Path.{_≡_};
+ghost use lib.Dec.{leb};
+ghost use Rattle.std.specs.Results.{Cases};
+ghost use Rattle.std.specs.declared.result.Result.the-variants.{Ok, Err};
+ghost use Rattle.board_text.specs.Verdict.{line-end, is-frame, next-line};
+use crate::digits::is_digit;
+use crate::refusals::TextRefusal;
+
+// A view over the lines of a text.
+#[derive(Drop)]
+pub(crate) struct Lines<'a> {
+    text: &'a [u8],
+    // Where the next line begins.
+    at: usize,
+    // How many lines were taken.
+    taken: u16,
+    ghost within: { at ≤ length (now text) },
+}
+
+// How many bytes stand before the first LF: all of them where there is none.
+fn before_lf(text: &[u8]) -> usize
+    ensures count { λ r. ⌜ r ≡ line-end (now (text .entry)) ⌝ }
+    ensures within { λ r. ⌜ r ≤ length (now (text .entry)) ⌝ }
+{
+    for (i, byte) in text.iter().enumerate() {
+        if *byte == b'\n' {
+            return i;
+        }
+    }
+    text.len()
+}
+
+// Whether the line has digits alone, and an even number of them.
+fn is_frame(line: &[u8]) -> bool
+    ensures { λ r. ⌜ r ≡ is-frame (now (line .entry)) ⌝ }
+{
+    if line.len() % 2 != 0 {
+        return false;
+    }
+    for byte in line {
+        if !is_digit(*byte) {
+            return false;
+        }
+    }
+    true
+}
+
+// The line at the front of the text, without its LF; `number` is its number.
+fn first_line<'a>(text: &'a [u8], number: u16) -> Result<&'a [u8], (TextRefusal, u16)>
+    ensures line { λ r. ⌜ Cases r (λ l. next-line number (now (text .entry)) ≡ Ok (now l, drop (length (now l) + 1) (now (text .entry)))) (λ e. next-line number (now (text .entry)) ≡ Err e) ⌝ }
+    ensures within { λ r. ⌜ Cases r (λ l. length (now l) < length (now (text .entry))) (λ _. Unit {0}) ⌝ }
+{
+    let length = before_lf(text);
+    if length == text.len() {
+        return Err((TextRefusal::NoLine, number));
+    }
+    let line = &text[0..length];
+    if !is_frame(line) {
+        return Err((TextRefusal::NotDigits, number));
+    }
+    Ok(line)
+}
+
+impl<'a> Lines<'a> {
+    pub(crate) fn new(text: &'a [u8]) -> Lines<'a>
+        ensures text { λ r. ⌜ now (r .text) ≡ now (text .entry) ⌝ }
+        ensures at { λ r. ⌜ r .at ≡ 0 ⌝ }
+        ensures taken { λ r. ⌜ r .taken ≡ 0 ⌝ }
+    {
+        Lines { text, at: 0, taken: 0 }
+    }
+
+    // Takes the next line, without its LF.
+    pub(crate) fn next(&mut self) -> Result<&'a [u8], (TextRefusal, u16)>
+        requires { ⌜ now self .taken < 1000 ⌝ }
+        ensures text { λ _. ⌜ now (now (self .exit) .text) ≡ now (now (self .entry) .text) ⌝ }
+        ensures line { λ r. ⌜ Cases r (λ l. next-line (now (self .entry) .taken + 1) (drop (now (self .entry) .at) (now (now (self .entry) .text))) ≡ Ok (now l, drop (now (self .exit) .at) (now (now (self .entry) .text)))) (λ e. next-line (now (self .entry) .taken + 1) (drop (now (self .entry) .at) (now (now (self .entry) .text))) ≡ Err e) ⌝ }
+        ensures taken { λ r. ⌜ Cases r (λ _. now (self .exit) .taken ≡ now (self .entry) .taken + 1) (λ _. now (self .exit) ≡ now (self .entry)) ⌝ }
+    {
+        let line = first_line(&self.text[self.at..], self.taken + 1)?;
+        self.at += line.len() + 1;
+        self.taken += 1;
+        Ok(line)
+    }
+
+    pub(crate) fn is_empty(&self) -> bool
+        ensures { λ r. ⌜ r ≡ leb (length (now (now (self .entry) .text))) (now (self .entry) .at) ⌝ }
+    {
+        self.text.len() <= self.at
+    }
+}
