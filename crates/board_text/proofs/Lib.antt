@@ -1,4 +1,12 @@
 pub mod Advance
+pub mod Counts
 pub mod Fours
+pub mod Framed
+pub mod Hex
+pub mod Judged
 pub mod Numbered
 pub mod Puts
+pub mod Spots
+pub mod Surveyed
+pub mod Tables
+pub mod Texts

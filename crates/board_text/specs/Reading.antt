@@ -48,3 +48,8 @@ moves-after (Err e) ms = ms
 -- reading a text into slices of these lengths
 abbrev pub reading : List ℕ → ℕ → ℕ → Result (List Spot) Fault
 reading t records moves = fitted (verdict t) records moves
+
+-- while positions are read: the moves so far, and the text that is left
+abbrev pub tallied : ℕ → Result (List Spot × List ℕ) Fault → Result (ℕ × List ℕ) Fault
+tallied before (Ok p) = Ok (before + length (all-moves (p .0)), p .1)
+tallied before (Err e) = Err e

@@ -104,10 +104,13 @@ abbrev pub end-in : ℕ → ℕ → List ℕ → Result (Unit {0}) Fault
 end-in total line t =
     and-then (next-line line t) (λ l. and-then (total-in total line (l .0)) (λ _. nothing-more (line + 1) (l .1)))
 
+-- the first line gives the number of positions; after it stands the text of the rest
+abbrev pub opening : List ℕ → Result (ℕ × List ℕ) Fault
+opening t = and-then (next-line 1 t) (λ l. and-then (count-in 1 (l .0)) (λ n. Ok (n, l .1)))
+
 -- the whole text, line by line
 abbrev pub verdict : List ℕ → Result (List Spot) Fault
 verdict t =
-    and-then (next-line 1 t) (λ l.
-    and-then (count-in 1 (l .0)) (λ n.
-    and-then (spots-in n n 2 (l .1)) (λ p.
-    and-then (end-in (length (all-moves (p .0))) (n + 2) (p .1)) (λ _. Ok (p .0)))))
+    and-then (opening t) (λ o.
+      and-then (spots-in (o .0) (o .0) 2 (o .1)) (λ p.
+        and-then (end-in (length (all-moves (p .0))) (o .0 + 2) (p .1)) (λ _. Ok (p .0))))

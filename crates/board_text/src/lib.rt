@@ -3,6 +3,7 @@ mod digits;
 mod lines;
 mod parts;
 mod refusals;
+mod survey;
 
 pub use refusals::TextRefusal;
 pub use refusals::WriteRefusal;

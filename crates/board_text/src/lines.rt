@@ -88,6 +88,14 @@ impl<'a> Lines<'a> {
         Ok(line)
     }
 
+    // The number of the line that was taken last.
+    pub(crate) fn number(&self) -> u16
+        ensures { λ r. ⌜ r ≡ now (self .entry) .taken ⌝ }
+    {
+        self.taken
+    }
+
+    // Whether no byte is left.
     pub(crate) fn is_empty(&self) -> bool
         ensures { λ r. ⌜ r ≡ leb (length (now (now (self .entry) .text))) (now (self .entry) .at) ⌝ }
     {

@@ -1,9 +1,9 @@
-ghost use Prim.Native.Nat.{_<_};
+ghost use Prim.Native.Nat.{_<_, _≤_};
 ghost use lib.ListN.{length};
 ghost use mathlib.Core.Bool.{cond};
 ghost use mathlib.Core.Path.{_≡_};
 ghost use Rattle.board.specs.Rising.{rising};
-ghost use Rattle.std.specs.Results.{mapped};
+ghost use Rattle.std.specs.Results.{Cases, mapped};
 ghost use Rattle.std.specs.declared.option.Option.the-variants.{Some, None};
 ghost use Rattle.board_text.specs.Digits.{fours};
 ghost use Rattle.board_text.specs.Verdict.{is-number-line, number-in, count-in, spot-in, total-in};
@@ -24,7 +24,8 @@ fn number_in(line: &[u8], kind: u8) -> Option<u16>
 
 // The number of positions that the first line gives.
 pub(crate) fn count_in(line: &[u8], number: u16) -> Result<u16, (TextRefusal, u16)>
-    ensures { λ r. ⌜ r ≡ count-in number (now (line .entry)) ⌝ }
+    ensures count { λ r. ⌜ r ≡ count-in number (now (line .entry)) ⌝ }
+    ensures few { λ r. ⌜ Cases r (λ n. n ≤ 512) (λ _. Unit {0}) ⌝ }
 {
     let Some(count) = number_in(line, 1) else {
         return Err((TextRefusal::NotDue, number));
@@ -67,7 +68,8 @@ fn moves_ascend(digits: &[u8], count: u16) -> bool
 
 // How many moves the line of a position gives, on a board of `count` positions.
 pub(crate) fn moves_in(line: &[u8], count: u16, number: u16) -> Result<u16, (TextRefusal, u16)>
-    ensures { λ r. ⌜ r ≡ mapped (λ s. length (s .moves)) (λ e. e) (spot-in count number (now (line .entry))) ⌝ }
+    ensures moves { λ r. ⌜ r ≡ mapped (λ s. length (s .moves)) (λ e. e) (spot-in count number (now (line .entry))) ⌝ }
+    ensures few { λ r. ⌜ Cases r (λ m. m ≤ 16) (λ _. Unit {0}) ⌝ }
 {
     let [b'0', b'2', s0, s1, l0, l1, moves @ ..] = line else {
         return Err((TextRefusal::NotDue, number));

@@ -19,11 +19,11 @@ unfolding judged
 returns-then-count-eq0 c =
     let e = numbered (is-number-line 1 (c .args .line .now)) (c .in-Some .count) (number-in (c .args .line .now)) (judged (c .args .number)) (Err (NotDue, c .args .number)) (c .in-Some .ensures tt) in
     let f : Err (BadCount, c .args .number) ≡ judged (c .args .number) (c .in-Some .count) = grind (arith, tells) in
-    f ∙ e
+    record { count = f ∙ e; few = tt }
 
 pub returns : need.returns
 unfolding judged
 returns c =
     let e = numbered (is-number-line 1 (c .args .line .now)) (c .in-Some .count) (number-in (c .args .line .now)) (judged (c .args .number)) (Err (NotDue, c .args .number)) (c .in-Some .ensures tt) in
     let f : Ok (c .in-Some .count) ≡ judged (c .args .number) (c .in-Some .count) = grind (arith, tells) in
-    f ∙ e
+    record { count = f ∙ e; few = omega arith }

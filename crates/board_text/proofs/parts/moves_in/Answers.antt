@@ -9,7 +9,7 @@ pub returns-then-not-moves-ascend : need.returns-then-not-moves-ascend
 returns-then-not-moves-ascend c =
     let rest = take-rest (c .args .line .now) 6 in
     let no = c .if-not-moves-ascend .ensures tt in
-    grind (arith, tells)
+    record { moves = grind (arith, tells); few = tt }
 
 pub returns : need.returns
 returns c =
@@ -17,4 +17,4 @@ returns c =
     let many = length-fours (drop 6 (c .args .line .now)) in
     let long = length-drop 6 (c .args .line .now) in
     let yes = c .if-not-moves-ascend .ensures tt in
-    grind (arith, tells)
+    record { moves = grind (arith, tells); few = omega arith }
