@@ -1,1 +1,4 @@
 pub mod Puts
+pub mod Lengths
+pub mod Steps
+pub mod Outcomes
