@@ -100,8 +100,3 @@ digits-hex4 n l lt h = digits-hex2 (n / 256) (hex2 (n % 256) ++ l) (omega arith)
 pub digits-hex4s : (ns : List ℕ) → ((i : ℕ) → i < length ns → getD ns i 0 < 65536) → all-digits (hex4s ns) ≡ true
 digits-hex4s [] small = refl
 digits-hex4s (n ∷ ns) small = digits-hex4 n (hex4s ns) (small 0 (omega arith)) (digits-hex4s ns (λ i lt. small (suc i) (omega arith)))
-
--- numbers take four digits each
-pub length-hex4s : (ns : List ℕ) → length (hex4s ns) ≡ 4 * length ns
-length-hex4s [] = refl
-length-hex4s (n ∷ ns) = let more = length-hex4s ns in omega arith

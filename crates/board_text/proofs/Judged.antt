@@ -9,7 +9,7 @@ use Rattle.std.specs.declared.result.Result.{Result}
 use Rattle.std.specs.declared.result.Result.the-variants.{Ok, Err}
 use Rattle.board.specs.Spot.{Spot, all-moves}
 use Rattle.board_text.specs.Reading.{counts, tallied}
-use Rattle.board_text.specs.Verdict.{Fault, and-then, next-line, opening, spots-in, total-in, nothing-more, end-in, verdict}
+use Rattle.board_text.specs.Verdict.{Fault, and-then, next-line, count-in, opening, spots-in, total-in, nothing-more, end-in, verdict}
 use Rattle.board_text.proofs.Framed.{goes-on, stops}
 use Rattle.board_text.proofs.Texts.{spots-count}
 
@@ -46,10 +46,19 @@ spots-tallied (Ok p) m rest e =
     )
 spots-tallied (Err f) m rest e = let never : _≡_ {A = ℕ} 0 1 = cc in absurd (omega arith)
 
--- and a tally with one
-spots-refused : (r : Result (List Spot × List ℕ) Fault) (f : Fault) → tallied 0 r ≡ Err f → r ≡ Err f
-spots-refused (Ok p) f e = let never : _≡_ {A = ℕ} 0 1 = cc in absurd (omega arith)
-spots-refused (Err g) f e = let same : g ≡ f = cc in ap (λ (x : Fault). Err x) same
+-- the first line, taken by a view that has taken none, gives a count
+pub opening-counts : (taken at place n number : ℕ) (t l : List ℕ) → taken ≡ 0 → number ≡ taken + 1 → next-line (taken + 1) (drop at t) ≡ Ok (l, drop place t) → Ok n ≡ count-in number l → opening (drop at t) ≡ Ok (n, drop place t)
+opening-counts taken at place n number t l none next h count =
+    let one : next-line 1 (drop at t) ≡ Ok (l, drop place t) = subst (λ (k : ℕ). next-line (k + 1) (drop at t) ≡ Ok (l, drop place t)) none h in
+    let two : Ok n ≡ count-in 1 l = subst (λ (k : ℕ). Ok n ≡ count-in k l) (next ∙ ap (λ (k : ℕ). k + 1) none) count in
+    goes-on (next-line 1 (drop at t)) _ (l, drop place t) one ∙ goes-on (count-in 1 l) _ n (sym two)
+
+-- or is refused for it
+pub opening-refused : (taken at place number : ℕ) (t l : List ℕ) (f : Fault) → taken ≡ 0 → number ≡ taken + 1 → next-line (taken + 1) (drop at t) ≡ Ok (l, drop place t) → Err f ≡ count-in number l → opening (drop at t) ≡ Err f
+opening-refused taken at place number t l f none next h count =
+    let one : next-line 1 (drop at t) ≡ Ok (l, drop place t) = subst (λ (k : ℕ). next-line (k + 1) (drop at t) ≡ Ok (l, drop place t)) none h in
+    let two : Err f ≡ count-in 1 l = subst (λ (k : ℕ). Err f ≡ count-in k l) (next ∙ ap (λ (k : ℕ). k + 1) none) count in
+    goes-on (next-line 1 (drop at t)) _ (l, drop place t) one ∙ stops (count-in 1 l) _ f (sym two)
 
 -- what was opened from a view that stands at the front of the text
 pub opened-at : (at place n : ℕ) (s t : List ℕ) → at ≡ 0 → s ≡ t → opening (drop at s) ≡ Ok (n, drop place s) → opening t ≡ Ok (n, drop place t)
@@ -57,17 +66,7 @@ opened-at at place n s t front same h =
     let one = subst (λ (k : ℕ). opening (drop k s) ≡ Ok (n, drop place s)) front h in
     subst (λ (x : List ℕ). opening x ≡ Ok (n, drop place x)) same one
 
--- the first line is refused
-pub judged-opening : (at : ℕ) (s t : List ℕ) (f : Fault) → at ≡ 0 → s ≡ t → opening (drop at s) ≡ Err f → counts (verdict t) ≡ Err f
-judged-opening at s t f front same h =
-    let one = subst (λ (k : ℕ). opening (drop k s) ≡ Err f) front h in
-    ap counts (stops (opening t) _ f (subst (λ (x : List ℕ). opening x ≡ Err f) same one))
-
 module _ (t r : List ℕ) (n : ℕ) (opened : opening t ≡ Ok (n, r)) where
-  -- a position is refused
-  pub judged-spots : (f : Fault) → tallied 0 (spots-in n n 2 r) ≡ Err f → counts (verdict t) ≡ Err f
-  judged-spots f h = ap counts (goes-on (opening t) _ (n, r) opened ∙ stops (spots-in n n 2 r) _ f (spots-refused _ f h))
-
   module _ (m : ℕ) (rest : List ℕ) (tally : tallied 0 (spots-in n n 2 r) ≡ Ok (m, rest)) where
     found : (b : List Spot) × (spots-in n n 2 r ≡ Ok (b, rest)) × (length (all-moves b) ≡ m)
     found = spots-tallied (spots-in n n 2 r) m rest tally

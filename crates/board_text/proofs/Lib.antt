@@ -4,9 +4,12 @@ pub mod Fours
 pub mod Framed
 pub mod Hex
 pub mod Judged
+pub mod Lengths
 pub mod Numbered
+pub mod Outcomes
 pub mod Puts
 pub mod Spots
+pub mod Steps
 pub mod Surveyed
 pub mod Tables
 pub mod Texts

@@ -16,7 +16,8 @@ use Rattle.board.proofs.Decided.{fair-rises}
 use Rattle.board_text.specs.Digits.{is-digit, hex2, hex4s, all-digits}
 use Rattle.board_text.specs.Text.{spot-line, spot-lines}
 use Rattle.board_text.specs.Verdict.{is-frame, is-kind, is-spot-line, next-line, spot-by, spot-written, spot-in, spots-in}
-use Rattle.board_text.proofs.Hex.{two-hex2, hex2-two, fours-hex4s, hex4s-fours, digits-hex2, digits-hex4s, length-hex4s, same-two, same-join}
+use Rattle.board_text.proofs.Hex.{two-hex2, hex2-two, fours-hex4s, hex4s-fours, digits-hex2, digits-hex4s, same-two, same-join}
+use Rattle.board_text.proofs.Lengths.{hex4s-length}
 use Rattle.board_text.proofs.Framed.{goes-on, went-on, passed, frame-read, read-frame, by-six}
 
 -- the line of a position without its LF
@@ -48,7 +49,7 @@ spot-framed : (n : ℕ) (s : Spot) → n ≤ 512 → Fair-spot n s → is-frame 
 spot-framed n s most f =
     let side = f .side-known in
     let label = f .label-known in
-    let long = length-hex4s (s .moves) in
+    let long = hex4s-length (s .moves) in
     and-from (all-digits (spot-digits s)) _
     (digits-hex2 2 (hex2 (s .side) ++ (hex2 (s .label) ++ hex4s (s .moves))) (omega arith)
     (digits-hex2 (s .side) (hex2 (s .label) ++ hex4s (s .moves)) (omega arith)
@@ -59,7 +60,7 @@ spot-framed n s most f =
 spot-formed : (n : ℕ) (s : Spot) → Fair-spot n s → is-spot-line (spot-digits s) ≡ true
 spot-formed n s f =
     let few = f .few in
-    let long = length-hex4s (s .moves) in
+    let long = hex4s-length (s .moves) in
     and-from (leb 6 (length (spot-digits s))) _ (le-leb 6 (length (spot-digits s)) (omega arith))
     (and-from (leb (length (spot-digits s)) 70) _ (le-leb (length (spot-digits s)) 70 (omega arith))
     (eq-eqb ((length (spot-digits s) - 6) % 4) 0 (omega arith)))
@@ -96,7 +97,7 @@ passed-fair : (n : ℕ) (s : Spot) → length (spot-digits s) ≤ 70 → s .side
 passed-fair n s long side label rises = record {
   side-known = side;
   label-known = label;
-  few = let each = length-hex4s (s .moves) in omega arith;
+  few = let each = hex4s-length (s .moves) in omega arith;
   within = λ i lt. rising-within n 0 (s .moves) rises i lt .1;
   ascending = rising-ascends n 0 (s .moves) rises;
 }

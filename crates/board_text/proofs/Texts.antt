@@ -1,31 +1,19 @@
 -- A fair board and its text: each is found from the other.
-use mathlib.Core.Path.{_≡_, refl, sym, ap, subst, _∙_}
-use mathlib.Core.List.{List, [], _∷_, _++_}
-use Prim.Native.Nat.{ℕ, suc, _+_, _*_, _≤_, _<_}
+use mathlib.Core.Path.{_≡_, sym, ap, subst, _∙_}
+use mathlib.Core.List.{List, _∷_, _++_}
+use Prim.Native.Nat.{ℕ, _+_, _≤_, _<_}
 use native.Mathlib.Omega.{arith}
 use lib.ListN.{length}
 use Rattle.std.specs.declared.result.Result.the-variants.{Ok}
-use Rattle.std.proofs.shelf.Lists.{length-append}
 use Rattle.board.specs.Spot.{Spot, spot-at, all-moves}
 use Rattle.board.specs.Fair.{Fair, Fair-spot}
+use Rattle.board.proofs.Tallies.{few-moves}
 use Rattle.board_text.specs.Text.{spot-lines, last-line, text-of}
 use Rattle.board_text.specs.Verdict.{next-line, count-in, opening, spots-in, end-in, verdict}
-use Rattle.board_text.proofs.Hex.{length-hex4s, same-join}
+use Rattle.board_text.proofs.Hex.{same-join}
 use Rattle.board_text.proofs.Framed.{goes-on, went-on, frame-read, read-frame}
 use Rattle.board_text.proofs.Counts.{number-digits, number-framed, count-read, read-count, end-read, read-end}
 use Rattle.board_text.proofs.Spots.{spots-read, read-spots}
-
--- where no position has more than sixteen moves, the board has at most sixteen for each
-few-each : (b : List Spot) → ((v : ℕ) → v < length b → length (spot-at b v .moves) ≤ 16) → length (all-moves b) ≤ 16 * length b
-few-each [] few = omega arith
-few-each (s ∷ b) few =
-    let here = few 0 (omega arith) in
-    let more = few-each b (λ v lt. few (suc v) (omega arith)) in
-    simp length-append (omega arith)
-
--- a fair board has at most sixteen moves for each position
-pub few-moves : (b : List Spot) → Fair b → length (all-moves b) ≤ 16 * length b
-few-moves b f = few-each b (λ v lt. f .each v lt .few)
 
 -- the text of a fair board is judged to be that board
 pub read-back : (b : List Spot) → Fair b → verdict (text-of b) ≡ Ok b
@@ -87,15 +75,3 @@ one-text a b f g e =
     let same : Ok a ≡ verdict (text-of b) = sym (read-back a f) ∙ ap verdict e in
     let back = read-back b g in
     cc
-
--- how long the lines of the positions are
-length-lines : (b : List Spot) → length (spot-lines b) ≡ 7 * length b + 4 * length (all-moves b)
-length-lines [] = refl
-length-lines (s ∷ b) =
-    let more = length-lines b in
-    let moves = length-hex4s (s .moves) in
-    simp length-append (omega arith)
-
--- how long a text is
-pub text-length : (b : List Spot) → length (text-of b) ≡ 14 + 7 * length b + 4 * length (all-moves b)
-text-length b = let lines = length-lines b in simp length-append (omega arith)

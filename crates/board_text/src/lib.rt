@@ -1,9 +1,11 @@
-// Board text: the reader, the writer, and the two of them joined.
+// Board text: the reader and the writer.
 mod digits;
 mod lines;
 mod parts;
 mod refusals;
 mod survey;
+mod writer;
 
 pub use refusals::TextRefusal;
 pub use refusals::WriteRefusal;
+pub use writer::write;

@@ -23,7 +23,7 @@ returns-in-Break-survey-end c =
     let fault = c .in-Break-survey-end .field-0 .0 in
     let line : c .survey-spots .last .lines .taken + 1 ≡ n + 2 = omega (arith, c .in-Continue-total .ensures tt .taken) in
     let ended = subst (λ (t : List ℕ). Err fault ≡ end-in m (c .survey-spots .last .lines .taken + 1) (drop place t)) (c .survey-spots .ensures .text ∙ text) (c .in-Break-survey-end .ensures tt) in
-    rw (p .1, p .2) (sym (judged-end _ _ n opened m _ tally fault (subst (λ (k : ℕ). Err fault ≡ end-in m k (drop place (c .args .text .now))) line ended)))
+    rw (p .1, p .2) (sym (judged-end (c .args .text .now) _ n opened m _ tally fault (subst (λ (k : ℕ). Err fault ≡ end-in m k (drop place (c .args .text .now))) line ended)))
 
 pub returns : need.returns
 returns c =
@@ -36,4 +36,4 @@ returns c =
     let tally = subst (λ (t : List ℕ). tallied 0 (spots-in n n 2 (drop (c .opening .last .lines .at) t)) ≡ Ok (m, drop place t)) text (c .in-Continue-total .ensures tt .total) in
     let line : c .survey-spots .last .lines .taken + 1 ≡ n + 2 = omega (arith, c .in-Continue-total .ensures tt .taken) in
     let ended = subst (λ (t : List ℕ). Ok tt ≡ end-in m (c .survey-spots .last .lines .taken + 1) (drop place t)) (c .survey-spots .ensures .text ∙ text) (c .in-Continue-survey-end .ensures tt) in
-    sym (judged-good _ _ n opened m _ tally (subst (λ (k : ℕ). Ok tt ≡ end-in m k (drop place (c .args .text .now))) line ended))
+    sym (judged-good (c .args .text .now) _ n opened m _ tally (subst (λ (k : ℕ). Ok tt ≡ end-in m k (drop place (c .args .text .now))) line ended))
