@@ -1,5 +1,6 @@
 pub mod Advance
 pub mod Counts
+pub mod Filled
 pub mod Fours
 pub mod Framed
 pub mod Hex

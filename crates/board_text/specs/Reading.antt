@@ -11,11 +11,14 @@ use Rattle.board.specs.declared.records.Record.{Record}
 use Rattle.board_text.specs.Verdict.{Fault, verdict}
 use Rattle.board_text.specs.declared.refusals.TextRefusal.the-variants.{NoRoom}
 
--- the records of a board, when `before` moves stand before its first: each has its place after the moves of those before it
+-- the record of a position before whose moves stand `before` others
+abbrev pub record-of : ℕ → Spot → Record
+record-of before s = record { side = s .side; label = s .label; first = before; count = length (s .moves) }
+
+-- the records of a board: each has its place after the moves of those before it
 abbrev pub records-of : ℕ → List Spot → List Record
 records-of before [] = []
-records-of before (s ∷ b) =
-    record { side = s .side; label = s .label; first = before; count = length (s .moves) } ∷ records-of (before + length (s .moves)) b
+records-of before (s ∷ b) = record-of before s ∷ records-of (before + length (s .moves)) b
 
 -- the front of a list overwritten, later places kept
 abbrev pub over : {X : Type 0} → List X → List X → List X
@@ -53,3 +56,13 @@ reading t records moves = fitted (verdict t) records moves
 abbrev pub tallied : ℕ → Result (List Spot × List ℕ) Fault → Result (ℕ × List ℕ) Fault
 tallied before (Ok p) = Ok (before + length (all-moves (p .0)), p .1)
 tallied before (Err e) = Err e
+
+-- the positions that were read
+abbrev pub found : Result (List Spot × List ℕ) Fault → List Spot
+found (Ok p) = p .0
+found (Err e) = []
+
+-- the board that a text was judged to be
+abbrev pub board-in : Result (List Spot) Fault → List Spot
+board-in (Ok b) = b
+board-in (Err e) = []

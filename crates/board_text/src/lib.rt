@@ -1,5 +1,6 @@
 // Board text: the reader and the writer.
 mod digits;
+mod fill;
 mod lines;
 mod parts;
 mod refusals;
