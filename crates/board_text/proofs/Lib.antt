@@ -1,6 +1,7 @@
 pub mod Advance
 pub mod Counts
 pub mod Filled
+pub mod Fitted
 pub mod Fours
 pub mod Framed
 pub mod Hex

@@ -8,6 +8,7 @@ use Rattle.std.specs.declared.result.Result.the-variants.{Ok}
 use Rattle.board.specs.Spot.{Spot, spot-at, all-moves}
 use Rattle.board.specs.Fair.{Fair, Fair-spot}
 use Rattle.board.proofs.Tallies.{few-moves}
+use Rattle.board_text.specs.Laws.{Judged-exactly}
 use Rattle.board_text.specs.Text.{spot-lines, last-line, text-of}
 use Rattle.board_text.specs.Verdict.{next-line, count-in, opening, spots-in, end-in, verdict}
 use Rattle.board_text.proofs.Hex.{same-join}
@@ -75,3 +76,7 @@ one-text a b f g e =
     let same : Ok a ≡ verdict (text-of b) = sym (read-back a f) ∙ ap verdict e in
     let back = read-back b g in
     cc
+
+-- the verdict is a board exactly on that board's text
+pub judged-exactly : (t : List ℕ) → Judged-exactly t
+judged-exactly t b = (only-texts t b, λ p. ap verdict (p .1) ∙ read-back b (p .0))

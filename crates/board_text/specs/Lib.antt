@@ -5,3 +5,4 @@ pub mod Text
 pub mod Verdict
 pub mod Reading
 pub mod Writing
+pub mod Laws

@@ -70,3 +70,18 @@ fn fill_spots(lines: &mut Lines, count: u16, records: &mut [Record], moves: &mut
     }
     Ok(())
 }
+
+// Writes the board that the text is into the front of the two slices. The text was surveyed, so it is
+// not refused.
+pub(crate) fn fill(text: &[u8], records: &mut [Record], moves: &mut [u16]) -> Result<(), (TextRefusal, u16)>
+    requires good { ⌜ isOk (verdict (now text)) ≡ true ⌝ }
+    requires records { ⌜ length (board-in (verdict (now text))) ≤ length (now records) ⌝ }
+    requires moves { ⌜ length (all-moves (board-in (verdict (now text)))) ≤ length (now moves) ⌝ }
+    ensures done { λ r. ⌜ r ≡ Ok tt ⌝ }
+    ensures records { λ _. ⌜ now (records .exit) ≡ put 0 (records-of 0 (board-in (verdict (now (text .entry))))) (now (records .entry)) ⌝ }
+    ensures moves { λ _. ⌜ now (moves .exit) ≡ put 0 (all-moves (board-in (verdict (now (text .entry))))) (now (moves .entry)) ⌝ }
+{
+    let mut lines = Lines::new(text);
+    let count = opening(&mut lines)?;
+    fill_spots(&mut lines, count, records, moves)
+}

@@ -3,10 +3,12 @@ mod digits;
 mod fill;
 mod lines;
 mod parts;
+mod reader;
 mod refusals;
 mod survey;
 mod writer;
 
+pub use reader::read;
 pub use refusals::TextRefusal;
 pub use refusals::WriteRefusal;
 pub use writer::write;
