@@ -79,8 +79,7 @@ module _ (n i m taken : ℕ) (t : List ℕ) (rs : List Record) (ms : List ℕ) (
         let parts : _≡_ {A = List Spot × List ℕ} (second .0 ∷ b, third .0 .1) (so .left, so .after) = cc (third .2) in
         let heads : so .left ≡ second .0 ∷ b = sym (ap (λ (q : List Spot × List ℕ). q .0) parts) in
         let tails : third .0 .1 ≡ so .after = ap (λ (q : List Spot × List ℕ). q .1) parts in
-        let later : spots-in n (n - (i + 1)) (taken + 1 + 1) r ≡ Ok (b, third .0 .1) = subst (λ (q : List ℕ × List ℕ). spots-in n (n - (i + 1)) (taken + 1 + 1) (q .1) ≡ Ok (third .0)) same (third .1) in
-        (
+        let later : spots-in n (n - (i + 1)) (taken + 1 + 1) r ≡ Ok (b, third .0 .1) = subst (λ (q : List ℕ × List ℕ). spots-in n (n - (i + 1)) (taken + 1 + 1) (q .1) ≡ Ok (third .0)) same (third .1) in (
           spot .0,
           b,
           heads ∙ ap (λ (s : Spot). s ∷ b) (spot .1),
@@ -117,14 +116,14 @@ module _ (n i m taken : ℕ) (t : List ℕ) (rs : List Record) (ms : List ℕ) (
           after = so .after;
           spots = sym (ap (λ (k : ℕ). spots-in n (n - (i + 1)) k r) lines) ∙ found-next .3;
           records = ap (put (i + 1) (records-of m′ b)) (records ∙ ap (set rs i) is)
-          ∙ ap (λ (k : ℕ). put (i + 1) (records-of k b) (set rs i (record-of m s))) size
-          ∙ sym (ap (λ (x : List Spot). put i (records-of m x) rs) (found-next .2))
-          ∙ so .records;
+              ∙ ap (λ (k : ℕ). put (i + 1) (records-of k b) (set rs i (record-of m s))) size
+              ∙ sym (ap (λ (x : List Spot). put i (records-of m x) rs) (found-next .2))
+              ∙ so .records;
           moves = ap (put m′ (all-moves b)) moves
-          ∙ ap (λ (k : ℕ). put k (all-moves b) (put m (s .moves) ms)) size
-          ∙ sym (put-append m (s .moves) (all-moves b) ms)
-          ∙ sym (ap (λ (x : List Spot). put m (all-moves x) ms) (found-next .2))
-          ∙ so .moves;
+              ∙ ap (λ (k : ℕ). put k (all-moves b) (put m (s .moves) ms)) size
+              ∙ sym (put-append m (s .moves) (all-moves b) ms)
+              ∙ sym (ap (λ (x : List Spot). put m (all-moves x) ms) (found-next .2))
+              ∙ so .moves;
           room = omega arith;
           line = omega arith;
           few = omega arith;

@@ -59,9 +59,9 @@ module _ (v : Result (List Spot) Fault) (good : isOk v ≡ true) (records moves 
       ap (λ (x : Result (List Spot) Fault). fitted x records moves) (board-is v good)
       ∙ cond-false (fits (board-in v) records moves) (Ok (board-in v)) (Err (NoRoom, 0))
       (⊎-elim
-        (λ (few : records < length (board-in v)). and-left (leb (length (board-in v)) records) (leb (length (all-moves (board-in v))) moves) (lt-leb (length (board-in v)) records few))
-        (λ (few : moves < length (all-moves (board-in v))). and-right (leb (length (board-in v)) records) (leb (length (all-moves (board-in v))) moves) (lt-leb (length (all-moves (board-in v))) moves few))
-        short)
+      (λ (few : records < length (board-in v)). and-left (leb (length (board-in v)) records) (leb (length (all-moves (board-in v))) moves) (lt-leb (length (board-in v)) records few))
+      (λ (few : moves < length (all-moves (board-in v))). and-right (leb (length (board-in v)) records) (leb (length (all-moves (board-in v))) moves) (lt-leb (length (all-moves (board-in v))) moves few))
+      short)
 
 -- the positions after the first line are those of the board
 pub record Opened (t r : List ℕ) (n : ℕ) : Type 0 where

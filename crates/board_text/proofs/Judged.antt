@@ -38,8 +38,7 @@ module _ (total line : ℕ) (t l r : List ℕ) (taken : next-line line t ≡ Ok 
 -- what a tally without a fault was made from
 spots-tallied : (r : Result (List Spot × List ℕ) Fault) (m : ℕ) (rest : List ℕ) → tallied 0 r ≡ Ok (m, rest) → (b : List Spot) × (r ≡ Ok (b, rest)) × (length (all-moves b) ≡ m)
 spots-tallied (Ok p) m rest e =
-    let same : _≡_ {A = ℕ × List ℕ} (0 + length (all-moves (p .0)), p .1) (m, rest) = cc in
-    (
+    let same : _≡_ {A = ℕ × List ℕ} (0 + length (all-moves (p .0)), p .1) (m, rest) = cc in (
       p .0,
       ap (λ (x : ℕ × List ℕ). Ok (p .0, x .1)) same,
       sym (zero-add (length (all-moves (p .0)))) ∙ ap (λ (x : ℕ × List ℕ). x .0) same,

@@ -1,11 +1,13 @@
 -- How long a text and its parts are.
 use mathlib.Core.Path.{_≡_, refl}
 use mathlib.Core.List.{List, [], _∷_}
-use Prim.Native.Nat.{ℕ, _+_, _*_}
+use Prim.Native.Nat.{ℕ, _+_, _*_, _≤_}
 use native.Mathlib.Omega.{arith}
 use lib.ListN.{length}
 use Rattle.std.proofs.shelf.Lists.{length-append}
+use Rattle.board.specs.Fair.{Fair}
 use Rattle.board.specs.Spot.{Spot, all-moves}
+use Rattle.board.proofs.Tallies.{few-moves}
 use Rattle.board_text.specs.Digits.{hex4s}
 use Rattle.board_text.specs.Text.{spot-line, spot-lines, last-line, text-of}
 
@@ -35,4 +37,12 @@ pub text-length : (b : List Spot) → length (text-of b) ≡ 14 + 7 * length b +
 text-length b =
     let lines = spot-lines-length b in
     let end = length-append (spot-lines b) (last-line b) in
+    omega arith
+
+-- at most 512 positions, and sixteen moves each
+pub longest-text : (b : List Spot) → Fair b → length (text-of b) ≤ 36366
+longest-text b f =
+    let long = text-length b in
+    let few = few-moves b f in
+    let most = f .most in
     omega arith

@@ -1,9 +1,10 @@
 -- What writing answers and leaves behind, where the text fits and where it does not.
-use mathlib.Core.Path.{_≡_, sym, _∙_}
+use mathlib.Core.Path.{_≡_, sym, ap, _∙_}
 use mathlib.Core.List.{List}
 use Prim.Native.Nat.{ℕ, _≤_, _<_}
 use lib.Dec.{leb}
-use lib.ListN.{length}
+use lib.ListN.{length, take, drop}
+use Rattle.std.proofs.shelf.Lists.{take-at}
 use Rattle.std.proofs.shelf.Tests.{le-leb, lt-leb, cond-true, cond-false}
 use Rattle.std.specs.declared.result.Result.the-variants.{Ok, Err}
 use Rattle.board_text.specs.Put.{put}
@@ -26,3 +27,9 @@ module _ (text out : List ℕ) where
   filled fits =
       put-over text out fits
       ∙ sym (cond-true (leb (length text) (length out)) (over text out) out (le-leb (length text) (length out) fits))
+
+  -- the front of the slice is then the text
+  pub front-written : (n : ℕ) → n ≡ length text → length text ≤ length out → take n (after-writing text out) ≡ text
+  front-written n long fits =
+      ap (take n) (cond-true (leb (length text) (length out)) (over text out) out (le-leb (length text) (length out) fits))
+      ∙ take-at text (drop (length text) out) n (sym long)

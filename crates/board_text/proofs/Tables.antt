@@ -10,7 +10,15 @@ use Rattle.board.specs.Spot.{Spot, all-moves}
 use Rattle.board.specs.Fair.{Fair}
 use Rattle.board.specs.Table.{Sound, blank-record, bare-record, spot-of, sound-table, board-of}
 use Rattle.board.proofs.Decided.{decides-sound}
-use Rattle.board_text.specs.Reading.{records-of, over}
+use Rattle.board.specs.declared.records.Record.{Record}
+use Rattle.std.specs.declared.result.Result.{Result}
+use Rattle.std.specs.declared.result.Result.the-variants.{Ok}
+use Rattle.board_text.specs.Laws.{Gives-back}
+use Rattle.board_text.specs.Reading.{records-of, over, fitted, reading, records-after, moves-after}
+use Rattle.board_text.specs.Text.{text-of}
+use Rattle.board_text.specs.Verdict.{Fault}
+use Rattle.board_text.proofs.Fitted.{fitted-well, length-records}
+use Rattle.board_text.proofs.Texts.{read-back}
 
 -- a position shown with its own side and label and equal moves, before an equal board
 same-board : (s : Spot) (ms : List ℕ) (a b : List Spot) → ms ≡ s .moves → a ≡ b → record { side = s .side; label = s .label; moves = ms } ∷ a ≡ s ∷ b
@@ -42,3 +50,18 @@ table-back b ms f =
     let room : 0 + length (all-moves b) ≤ length after = simp length-append (omega arith) in
     let sound : Sound rs after = record { fair = subst Fair (sym shows) f; inside = λ v lt some. records-inside 0 (length after) b room v lt } in
     ap (map (spot-of after)) (cond-true (sound-table rs after) rs (bare-record ∷ []) (decides-sound rs after .1 sound)) ∙ shows
+
+-- the text of a fair board, read into slices with room, gives the board back
+pub gives-back : (b : List Spot) → Fair b → Gives-back (text-of b) b
+gives-back b f rs ms enough plenty =
+    let t = text-of b in
+    let judged = read-back b f in
+    let read : reading t (length rs) (length ms) ≡ Ok b =
+    ap (λ (v : Result (List Spot) Fault). fitted v (length rs) (length ms)) judged ∙ fitted-well (Ok b) refl (length rs) (length ms) enough plenty in
+    let front : take (length b) (over (records-of 0 b) rs) ≡ records-of 0 b =
+    take-at (records-of 0 b) (drop (length (records-of 0 b)) rs) (length b) (length-records 0 b) in (
+      read,
+      ap (λ (v : Result (List Spot) Fault). board-of (take (length b) (records-after v rs)) (moves-after v ms)) read
+          ∙ ap (λ (x : List Record). board-of x (over (all-moves b) ms)) front
+          ∙ table-back b ms f,
+    )

@@ -112,5 +112,5 @@ opening t = and-then (next-line 1 t) (λ l. and-then (count-in 1 (l .0)) (λ n. 
 abbrev pub verdict : List ℕ → Result (List Spot) Fault
 verdict t =
     and-then (opening t) (λ o.
-      and-then (spots-in (o .0) (o .0) 2 (o .1)) (λ p.
-        and-then (end-in (length (all-moves (p .0))) (o .0 + 2) (p .1)) (λ _. Ok (p .0))))
+    and-then (spots-in (o .0) (o .0) 2 (o .1)) (λ p.
+    and-then (end-in (length (all-moves (p .0))) (o .0 + 2) (p .1)) (λ _. Ok (p .0))))

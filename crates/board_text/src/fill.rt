@@ -51,7 +51,12 @@ fn fill_spot(line: &[u8], moves: &mut [u16], first: u16) -> Record
 
 // Takes the lines of `count` positions, and writes their records and moves. The lines were surveyed,
 // so none of them is refused.
-fn fill_spots(lines: &mut Lines, count: u16, records: &mut [Record], moves: &mut [u16]) -> Result<(), (TextRefusal, u16)>
+fn fill_spots(
+    lines: &mut Lines,
+    count: u16,
+    records: &mut [Record],
+    moves: &mut [u16],
+) -> Result<(), (TextRefusal, u16)>
     requires taken { ⌜ now lines .taken ≡ 1 ⌝ }
     requires few { ⌜ count ≤ 512 ⌝ }
     requires good { ⌜ isOk (spots-in count count 2 (drop (now lines .at) (now (now lines .text)))) ≡ true ⌝ }
@@ -73,7 +78,11 @@ fn fill_spots(lines: &mut Lines, count: u16, records: &mut [Record], moves: &mut
 
 // Writes the board that the text is into the front of the two slices. The text was surveyed, so it is
 // not refused.
-pub(crate) fn fill(text: &[u8], records: &mut [Record], moves: &mut [u16]) -> Result<(), (TextRefusal, u16)>
+pub(crate) fn fill(
+    text: &[u8],
+    records: &mut [Record],
+    moves: &mut [u16],
+) -> Result<(), (TextRefusal, u16)>
     requires good { ⌜ isOk (verdict (now text)) ≡ true ⌝ }
     requires records { ⌜ length (board-in (verdict (now text))) ≤ length (now records) ⌝ }
     requires moves { ⌜ length (all-moves (board-in (verdict (now text)))) ≤ length (now moves) ⌝ }

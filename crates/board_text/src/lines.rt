@@ -72,7 +72,11 @@ impl<'a> Lines<'a> {
         ensures at { λ r. ⌜ r .at ≡ 0 ⌝ }
         ensures taken { λ r. ⌜ r .taken ≡ 0 ⌝ }
     {
-        Lines { text, at: 0, taken: 0 }
+        Lines {
+            text,
+            at: 0,
+            taken: 0,
+        }
     }
 
     // Takes the next line, without its LF.

@@ -10,7 +10,11 @@ use board::Record;
 // Reads a board text into the front of the two slices, and answers how many records and how many
 // moves it took. The whole text is checked before anything is written: a refusal, with its line,
 // leaves both slices as they were.
-pub fn read(text: &[u8], records: &mut [Record], moves: &mut [u16]) -> Result<(usize, usize), (TextRefusal, u16)>
+pub fn read(
+    text: &[u8],
+    records: &mut [Record],
+    moves: &mut [u16],
+) -> Result<(usize, usize), (TextRefusal, u16)>
     ensures answer { λ r. ⌜ r ≡ counts (reading (now (text .entry)) (length (now (records .entry))) (length (now (moves .entry)))) ⌝ }
     ensures records { λ _. ⌜ now (records .exit) ≡ records-after (reading (now (text .entry)) (length (now (records .entry))) (length (now (moves .entry)))) (now (records .entry)) ⌝ }
     ensures moves { λ _. ⌜ now (moves .exit) ≡ moves-after (reading (now (text .entry)) (length (now (records .entry))) (length (now (moves .entry)))) (now (moves .entry)) ⌝ }

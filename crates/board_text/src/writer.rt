@@ -1,9 +1,11 @@
 ghost use Prim.Native.Nat.{_+_, _*_, _≤_};
-ghost use lib.ListN.{length};
+ghost use lib.ListN.{length, take};
 ghost use mathlib.Core.List.{[], _∷_, _++_};
 ghost use mathlib.Core.Path.{_≡_};
 ghost use Rattle.board.specs.Spot.{spot-at, moves-of};
+ghost use Rattle.std.specs.Results.{Cases};
 ghost use Rattle.board_text.specs.Digits.{hex2, hex4, hex4s};
+ghost use Rattle.board_text.specs.Laws.{Gives-back, Known-by-its-text};
 ghost use Rattle.board_text.specs.Put.{put};
 ghost use Rattle.board_text.specs.Text.{spot-line, spot-lines, text-of};
 ghost use Rattle.board_text.specs.Writing.{written, after-writing};
@@ -104,6 +106,9 @@ fn write_spots<B: Board>(board: &B, out: &mut [u8], at: usize) -> usize
 pub fn write<B: Board>(board: &B, out: &mut [u8]) -> Result<usize, WriteRefusal>
     ensures answer { λ r. ⌜ r ≡ written (text-of (B·Board .meaning (now (board .entry)))) (length (now (out .entry))) ⌝ }
     ensures after { λ _. ⌜ now (out .exit) ≡ after-writing (text-of (B·Board .meaning (now (board .entry)))) (now (out .entry)) ⌝ }
+    ensures longest { λ _. ⌜ length (text-of (B·Board .meaning (now (board .entry)))) ≤ 36366 ⌝ }
+    ensures back { λ r. ⌜ Cases r (λ n. Gives-back (take n (now (out .exit))) (B·Board .meaning (now (board .entry)))) (λ _. Unit {0}) ⌝ }
+    ensures known { λ _. ⌜ Known-by-its-text (B·Board .meaning (now (board .entry))) ⌝ }
 {
     let count = board.count();
     let total = count_moves(board);

@@ -14,8 +14,7 @@ loop-rest-again c =
     let long : 4 ≤ length (c .loop-rest .rest .now) = search needs in
     let more = fours-more (c .loop-rest .rest .now) long in
     let room = c .loop-rest .inv .1 in
-    let one = ap length more in
-    (
+    let one = ap length more in (
       rw (c .four-digits .ensures) (sym (ap (λ (x : List ℕ). put (c .loop-rest .place) x (c .loop-rest .moves)) more) ∙ c .loop-rest .inv .0),
       rw length-set (omega arith),
     )

@@ -41,8 +41,7 @@ add-first c =
 pub loop-position-again : need.loop-position-again
 loop-position-again c =
     let next = c .in-Continue-line .ensures tt in
-    let h = subst (λ (t : List ℕ). next-line (c .loop-position .lines .taken + 1) (drop (c .loop-position .lines .at) t) ≡ Ok (c .in-Continue-line .line .now, drop (c .next .last .self .at) t)) (c .loop-position .inv .1) (next .line) in
-    (
+    let h = subst (λ (t : List ℕ). next-line (c .loop-position .lines .taken + 1) (drop (c .loop-position .lines .at) t) ≡ Ok (c .in-Continue-line .line .now, drop (c .next .last .self .at) t)) (c .loop-position .inv .1) (next .line) in (
       filling-more _ _ _ _ _ _ _ _ _ (c .loop-position-test .taken) (c .loop-position .inv .0) _ _ h _ _ _ _ (c .fill-spot-record .result) (c .fill-spot-record .ensures .«record») refl (next .taken) refl (c .fill-spot-record .ensures .moves),
       next .text ∙ c .loop-position .inv .1,
     )

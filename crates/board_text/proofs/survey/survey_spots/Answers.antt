@@ -39,8 +39,7 @@ loop-again c =
     let next = c .in-Continue-line .ensures tt in
     let h = subst (λ (t : List ℕ). next-line (c .loop .lines .taken + 1) (drop (c .loop .lines .at) t) ≡ Ok (c .in-Continue-line .line .now, drop (c .next .last .self .at) t)) text (next .line) in
     let number : c .number .result ≡ c .loop .lines .taken + 1 = c .number .ensures ∙ next .taken in
-    let g = subst (λ (k : ℕ). Ok (c .in-Continue-total .field-0) ≡ moves-given (spot-in (c .args .count) k (c .in-Continue-line .line .now))) number (c .in-Continue-total .ensures tt .moves) in
-    (
+    let g = subst (λ (k : ℕ). Ok (c .in-Continue-total .field-0) ≡ moves-given (spot-in (c .args .count) k (c .in-Continue-line .line .now))) number (c .in-Continue-total .ensures tt .moves) in (
       sofar-more _ _ _ _ _ _ (c .loop-test .taken) (c .loop .inv .0) _ _ _ _ h g (c .in-Continue-total .ensures tt .few) (next .taken),
       c .next .ensures .text ∙ text,
     )
