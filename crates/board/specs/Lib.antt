@@ -4,3 +4,4 @@ pub mod Rising
 pub mod Table
 pub mod Fairness
 pub mod Refusals
+pub mod Summary

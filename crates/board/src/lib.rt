@@ -4,6 +4,7 @@ mod counts;
 mod records;
 mod refusals;
 mod soundness;
+mod summary;
 mod table;
 
 pub use board::Board;
@@ -18,5 +19,10 @@ pub use refusals::TableRefusal;
 pub use refusals::TableRefusalDebug;
 pub use refusals::TableRefusalEq;
 pub use refusals::TableRefusalPartialEq;
+pub use summary::Summary;
+pub use summary::SummaryDebug;
+pub use summary::SummaryEq;
+pub use summary::SummaryPartialEq;
+pub use summary::summarise;
 pub use table::Table;
 pub use table::TableBoard;
