@@ -2,6 +2,7 @@ pub mod Advance
 pub mod Counts
 pub mod Filled
 pub mod Fitted
+pub mod Formats
 pub mod Fours
 pub mod Framed
 pub mod Hex

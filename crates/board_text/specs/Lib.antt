@@ -6,3 +6,4 @@ pub mod Verdict
 pub mod Reading
 pub mod Writing
 pub mod Laws
+pub mod Formatting

@@ -1,6 +1,7 @@
 // Board text: the reader and the writer.
 mod digits;
 mod fill;
+mod format;
 mod lines;
 mod parts;
 mod reader;
@@ -8,6 +9,9 @@ mod refusals;
 mod survey;
 mod writer;
 
+pub use format::Formatted;
+pub use format::reformat;
+pub use format::refusal_line;
 pub use reader::read;
 pub use refusals::TextRefusal;
 pub use refusals::WriteRefusal;
