@@ -1,18 +1,18 @@
 -- The tests on moves and on tables decide what they are meant to.
-use mathlib.Core.Bool.{Bool, true, false, cond, _&&_, _||_}
-use mathlib.Core.Path.{_≡_, refl, sym, ap, subst, _∙_}
+use mathlib.Core.Bool.{true, _&&_}
+use mathlib.Core.Path.{_≡_, refl, subst}
 use mathlib.Core.List.{List, [], _∷_, map}
 use mathlib.Core.Logic.{⊎-elim}
-use Prim.Native.Nat.{ℕ, zero, suc, _+_, _≤_, _<_}
+use Prim.Native.Nat.{ℕ, suc, _+_, _≤_, _<_}
 use native.Mathlib.Numerals.{add-one}
 use native.Mathlib.Omega.{arith}
 use lib.Dec.{leb, ltb, eqb}
-use lib.ListN.{length, getD, take, drop}
-use Rattle.std.proofs.shelf.Lists.{getD-map, length-map, length-take, length-drop}
+use lib.ListN.{length, getD}
+use Rattle.std.proofs.shelf.Lists.{getD-map, length-map}
 use Rattle.std.proofs.shelf.Tests.{and-from, or-left, or-right, lt-ltb, le-leb, eq-eqb, cases-lt}
 use Rattle.std.specs.Orderings.{Decides}
-use Rattle.board.specs.Spot.{Spot, spot-at, blank}
-use Rattle.board.specs.Fair.{Fair, Fair-spot}
+use Rattle.board.specs.Spot.{Spot, blank}
+use Rattle.board.specs.Fair.{Fair-spot}
 use Rattle.board.specs.Fairness.{tested-at, sound-parts, shown-fair, as-many}
 use Rattle.board.specs.Rising.{rising}
 use Rattle.board.specs.Table.{Sound, blank-record, spot-of, sound-record, sound-records, sound-table}

@@ -1,16 +1,15 @@
 -- What is known of the records of a table that count.
-use mathlib.Core.Bool.{true, false, cond}
-use mathlib.Core.Path.{_≡_, refl, sym, ap, subst, _∙_}
+use mathlib.Core.Bool.{true}
+use mathlib.Core.Path.{_≡_, refl, sym, ap, _∙_}
 use mathlib.Core.List.{List, [], _∷_, map}
 use mathlib.Core.Logic.{⊎-elim}
 use Prim.Native.Nat.{ℕ, zero, suc, _+_, _≤_, _<_}
 use native.Mathlib.Omega.{arith}
-use lib.Dec.{lit≤}
 use lib.ListN.{length, getD, take, drop}
 use Rattle.std.proofs.shelf.Lists.{getD-past, getD-take, getD-drop, length-take}
 use Rattle.std.proofs.shelf.Tests.{cases-bool, cases-lt, cond-true, cond-false}
 use Rattle.board.specs.Spot.{Spot, spot-at, move-of}
-use Rattle.board.specs.Fairness.{Tested, tested-at, sound-parts, as-many}
+use Rattle.board.specs.Fairness.{tested-at, sound-parts}
 use Rattle.board.specs.Table.{blank-record, bare-record, spot-of, sound-table, kept, board-of}
 use Rattle.board.specs.declared.records.Record.{Record}
 

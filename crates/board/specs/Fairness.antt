@@ -1,20 +1,20 @@
 -- Why the table board is fair: the witness that its `impl` gives. Nothing here has to be read to
 -- understand a contract.
-use mathlib.Core.Bool.{Bool, true, false, cond, _&&_, _||_}
-use mathlib.Core.Path.{_≡_, refl, sym, ap, subst, _∙_}
+use mathlib.Core.Bool.{true, _&&_, _||_}
+use mathlib.Core.Path.{_≡_}
 use mathlib.Core.List.{List, [], _∷_, map}
 use Prim.Native.Nat.{ℕ, zero, suc, _+_, _≤_, _<_}
 use native.Mathlib.Numerals.{add-one}
 use native.Mathlib.Omega.{arith}
 use lib.Dec.{leb, ltb, eqb, lit<, lit≤}
-use lib.ListN.{length, getD, take, drop, length-take, length-drop, length-map}
+use lib.ListN.{length, getD, length-take, length-drop, length-map}
 use Rattle.std.proofs.shelf.Tests.{and-parts, or-cases, leb-true, ltb-true, eqb-true, cases-bool, cases-lt, cond-true, cond-false}
 use Rattle.std.proofs.shelf.Lists.{getD-map}
 use mathlib.Core.Logic.{⊎-elim}
-use Rattle.board.specs.Spot.{Spot, blank}
+use Rattle.board.specs.Spot.{blank}
 use Rattle.board.specs.Fair.{Fair, Fair-spot}
 use Rattle.board.specs.Rising.{rising}
-use Rattle.board.specs.Table.{blank-record, bare-record, spot-of, sound-record, sound-records, sound-table, kept, board-of}
+use Rattle.board.specs.Table.{blank-record, bare-record, spot-of, sound-record, sound-records, sound-table, board-of}
 use Rattle.board.specs.declared.records.Record.{Record}
 
 rising-head : (n low m : ℕ) (ms : List ℕ) → rising n low (m ∷ ms) ≡ true → (low ≤ m) × (m < n) × (rising n (m + 1) ms ≡ true)

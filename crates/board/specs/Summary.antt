@@ -1,6 +1,5 @@
 -- A board in numbers.
 use mathlib.Core.List.{List, map}
-use Prim.Native.Nat.{ℕ}
 use lib.Dec.{eqb}
 use lib.ListN.{length}
 use Rattle.std.specs.Iters.{counting}

@@ -1,8 +1,7 @@
-ghost use Prim.Native.Nat.{ℕ, _<_, _≤_};
+ghost use Prim.Native.Nat.{_<_};
 ghost use mathlib.Core.Bool.{true};
 ghost use mathlib.Core.Path.{_≡_};
 ghost use denote.Ref.{now};
-ghost use lib.ListN.{length, getD};
 ghost use Rattle.board.specs.Rising.{rising};
 ghost use Rattle.board.specs.Table.{sound-table, sound-record};
 use crate::records::Record;

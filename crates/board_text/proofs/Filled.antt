@@ -2,12 +2,12 @@
 use mathlib.Core.Bool.{true, _&&_}
 use Rattle.std.specs.Results.{isOk}
 use mathlib.Core.Path.{_≡_, refl, sym, ap, subst, _∙_}
-use mathlib.Core.List.{List, [], _∷_, _++_}
-use Prim.Native.Nat.{ℕ, suc, _+_, _-_, _*_, _/_, _≤_, _<_}
+use mathlib.Core.List.{List, _∷_}
+use Prim.Native.Nat.{ℕ, suc, _+_, _-_, _*_, _≤_, _<_}
 use native.Mathlib.Omega.{arith}
-use lib.Dec.{leb, ltb}
+use lib.Dec.{ltb}
 use lib.ListN.{length, drop, set}
-use Rattle.std.proofs.shelf.Lists.{length-append, length-set, length-drop}
+use Rattle.std.proofs.shelf.Lists.{length-append, length-drop}
 use Rattle.std.proofs.shelf.Tests.{false≢true}
 use Rattle.std.proofs.shelf.Ways.{tells}
 use Rattle.std.specs.declared.result.Result.{Result}
@@ -149,12 +149,3 @@ filling-none n t rs ms taken good room first =
       line = first;
       few = omega arith;
     }
-
--- after the last: nothing is left to fill
-pub filling-all : (n m taken : ℕ) (t : List ℕ) (rs : List Record) (ms : List ℕ) (rs-end : List Record) (ms-end : List ℕ) → Filling n n m taken t rs ms rs-end ms-end → (rs ≡ rs-end) × (ms ≡ ms-end)
-filling-all n m taken t rs ms rs-end ms-end so =
-    let none : n - n ≡ 0 = omega arith in
-    let ended : _≡_ {A = Result (List Spot × List ℕ) Fault} (Ok ([], t)) (Ok (so .left, so .after)) = sym (ap (λ (k : ℕ). spots-in n k (n + 2) t) none) ∙ so .spots in
-    let parts : _≡_ {A = List Spot × List ℕ} ([], t) (so .left, so .after) = cc in
-    let empty : _≡_ {A = List Spot} [] (so .left) = ap (λ (q : List Spot × List ℕ). q .0) parts in
-    (ap (λ (x : List Spot). put n (records-of m x) rs) empty ∙ so .records, ap (λ (x : List Spot). put m (all-moves x) ms) empty ∙ so .moves)

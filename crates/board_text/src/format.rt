@@ -29,7 +29,12 @@ const MOST_MOVES: usize = 8192;
 const LONGEST_TEXT: usize = 36_366;
 
 // What the records hold before a text is read.
-const BLANK: Record = Record { side: 0, label: 0, first: 0, count: 0 };
+const BLANK: Record = Record {
+    side: 0,
+    label: 0,
+    first: 0,
+    count: 0,
+};
 
 // The line that stands for a refusal, in the digits of board text.
 pub fn refusal_line(number: u8, line: u16) -> [u8; 9]
@@ -89,7 +94,12 @@ fn refused(heap: Global, refusal: TextRefusal, line: u16) -> Result<Formatted, A
 }
 
 // The same as `reformat`, by way of slices that every board fits into.
-fn reformat_over(heap: Global, input: &[u8], records: &mut [Record], moves: &mut [u16]) -> Result<Formatted, AllocError>
+fn reformat_over(
+    heap: Global,
+    input: &[u8],
+    records: &mut [Record],
+    moves: &mut [u16],
+) -> Result<Formatted, AllocError>
     requires records { ⌜ length (now records) ≡ 512 ⌝ }
     requires moves { ⌜ length (now moves) ≡ 8192 ⌝ }
     ensures { λ r. ⌜ made r (λ f. (vec-items (f .text) ≡ formatted (verdict (now (input .entry)))) × (f .outcome ≡ told (verdict (now (input .entry))))) ⌝ }
@@ -107,10 +117,5 @@ pub fn reformat(heap: Global, input: &[u8]) -> Result<Formatted, AllocError>
 {
     let mut records = vec![in heap; BLANK; MOST_POSITIONS]?;
     let mut moves = vec![in heap; 0u16; MOST_MOVES]?;
-    reformat_over(
-        heap,
-        input,
-        records.as_mut_slice(),
-        moves.as_mut_slice(),
-    )
+    reformat_over(heap, input, records.as_mut_slice(), moves.as_mut_slice())
 }

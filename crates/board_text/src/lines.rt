@@ -1,8 +1,6 @@
 ghost use Prim.Native.Nat.{_+_, _≤_, _<_};
 ghost use denote.Ref.{now};
 ghost use lib.ListN.{length, drop};
-ghost use mathlib.Core.Bool.{Bool};
-ghost use mathlib.Core.List.{List};
 ghost use mathlib.Core.Path.{_≡_};
 ghost use lib.Dec.{leb};
 ghost use Rattle.std.specs.Results.{Cases};

@@ -1,5 +1,6 @@
 ghost use mathlib.Core.Path.{_≡_};
 ghost use Rattle.board_text.specs.Refusals.{number-of, write-number-of};
+use std::fmt;
 
 // Why a text was refused, in the order in which a line is checked.
 #[derive(Clone, Copy, Debug, PartialEq, Eq)]
@@ -28,6 +29,25 @@ impl TextRefusal {
         ensures { λ r. ⌜ r ≡ number-of (now (self .entry)) ⌝ }
     {
         *self as u8
+    }
+}
+
+pub impl fmt::Display for TextRefusal as TextRefusalDisplay {
+    fn fmt<W: fmt::Write>(&self, f: &mut fmt::Formatter<W>) -> fmt::Result {
+        f.write_str(
+            match self {
+                TextRefusal::NoLine =>
+                    "no line feed ends the line, or no line stands where one is due",
+                TextRefusal::NotDigits => "a byte is no digit, or the digits are odd in number",
+                TextRefusal::NotDue => "the line's kind or length is not due here",
+                TextRefusal::BadCount => "the number of positions is 0 or above 512",
+                TextRefusal::BadSpot => "the side is above 1, or the label above 15",
+                TextRefusal::BadMove =>
+                    "a move leads to no position, or is not above the one before it",
+                TextRefusal::BadTotal => "the number is not the total of all moves",
+                TextRefusal::NoRoom => "the record slice or the move slice is too short",
+            },
+        )
     }
 }
 

@@ -1,9 +1,4 @@
-use mathlib.Core.Path.{_≡_}
 use native.Mathlib.Omega.{arith}
-use lib.ListN.{getD, drop}
-use Prim.Native.Nat.{_+_}
-use mathlib.Core.Bool.{_&&_}
-use lib.Dec.{leb, ltb}
 use Rattle.std.proofs.shelf.Lists.{at-drop-more, at-drop-all}
 use Rattle.std.proofs.shelf.Ways.{tells}
 use Rattle.board.specs.Rising.{rising}

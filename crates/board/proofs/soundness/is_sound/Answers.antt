@@ -1,11 +1,8 @@
-use mathlib.Core.Bool.{true, false, _&&_}
-use mathlib.Core.Path.{_≡_}
 use native.Mathlib.Omega.{arith}
-use Prim.Native.Nat.{_+_}
-use lib.ListN.{length, drop, getD}
+use lib.ListN.{length}
 use Rattle.std.proofs.shelf.Lists.{at-drop-more, at-drop-all}
 use Rattle.std.proofs.shelf.Ways.{tells}
-use Rattle.board.specs.Table.{sound-record, sound-records, blank-record}
+use Rattle.board.specs.Table.{sound-records, blank-record}
 use Rattle.board.proofs.soundness.is_sound.Needs as need
 
 pub returns-then-not-keeps-limits : need.returns-then-not-keeps-limits

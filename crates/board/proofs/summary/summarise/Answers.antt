@@ -1,23 +1,15 @@
-use mathlib.Core.List.{List}
-use mathlib.Core.Logic.{_≢_}
-use mathlib.Core.Path.{_≡_, sym, ap, _∙_}
-use Prim.Native.Nat.{ℕ, _<_}
 use native.Mathlib.Omega.{arith}
-use borrow.Author.Count.{below-more}
 use lib.Dec.{eqb}
-use lib.ListN.{length, getD}
 use Rattle.std.proofs.shelf.Counted.{fill-by-all}
 use Rattle.std.proofs.shelf.Edits.{fill-by-more}
 use Rattle.std.proofs.shelf.Lists.{length-set}
 use Rattle.board.specs.Spot.{how-many}
-use Rattle.board.specs.declared.summary.Summary.{Summary}
 use Rattle.board.proofs.summary.summarise.Needs as need
 
 pub loop-label-again : need.loop-label-again
 loop-label-again g c =
     let b = g .B·Board .meaning (c .args .board .now) in
-    let long = c .loop-label .inv .0 in
-    (
+    let long = c .loop-label .inv .0 in (
       rw length-set long,
       rw (c .count-label .ensures) (fill-by-more (λ k. how-many (λ s. eqb (s .label) k) b) (c .loop-label .labels) (c .loop-label .label) 0 (omega arith) (c .loop-label .inv .1)),
     )

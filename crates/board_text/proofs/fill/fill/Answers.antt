@@ -1,11 +1,9 @@
-use mathlib.Core.Path.{_≡_, sym, ap, subst, _∙_}
+use mathlib.Core.Path.{_≡_, sym, subst, _∙_}
 use mathlib.Core.List.{List}
 use Prim.Native.Nat.{ℕ, _≤_}
 use native.Mathlib.Omega.{arith}
 use lib.ListN.{length, drop}
 use Rattle.board.specs.Spot.{Spot, all-moves}
-use Rattle.board_text.specs.Reading.{found, board-in}
-use Rattle.board_text.specs.Verdict.{spots-in, verdict}
 use Rattle.board_text.proofs.Fitted.{Opened, opened-good}
 use Rattle.board_text.proofs.Judged.{opened-at}
 use Rattle.board_text.proofs.fill.fill.Needs as need

@@ -1,4 +1,4 @@
-use mathlib.Core.Bool.{Bool, cond, _&&_}
+use mathlib.Core.Bool.{cond, _&&_}
 use mathlib.Core.Path.{_≡_, _∙_}
 use Prim.Native.Nat.{ℕ}
 use native.Mathlib.Omega.{arith}
@@ -6,7 +6,7 @@ use lib.Dec.{leb}
 use Rattle.std.proofs.shelf.Ways.{tells}
 use Rattle.std.specs.declared.result.Result.{Result}
 use Rattle.std.specs.declared.result.Result.the-variants.{Ok, Err}
-use Rattle.board_text.specs.Verdict.{Fault, count-in, is-number-line, number-in}
+use Rattle.board_text.specs.Verdict.{Fault, is-number-line, number-in}
 use Rattle.board_text.specs.declared.refusals.TextRefusal.the-variants.{NotDue, BadCount}
 use Rattle.board_text.proofs.Numbered.{numbered}
 use Rattle.board_text.proofs.parts.count_in.Needs as need

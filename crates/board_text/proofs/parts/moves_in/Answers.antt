@@ -1,5 +1,5 @@
 use native.Mathlib.Omega.{arith}
-use lib.ListN.{length, drop}
+use lib.ListN.{drop}
 use Rattle.std.proofs.shelf.Lists.{take-rest, length-drop}
 use Rattle.std.proofs.shelf.Ways.{tells}
 use Rattle.board_text.proofs.Fours.{length-fours}

@@ -1,4 +1,4 @@
-use mathlib.Core.Bool.{Bool, true, false}
+use mathlib.Core.Bool.{true, false}
 use mathlib.Core.Path.{_≡_, ap}
 use Rattle.std.proofs.shelf.Ways.{decides-at}
 use Rattle.board.specs.Refusals.{table-answer}

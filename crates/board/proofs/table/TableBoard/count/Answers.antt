@@ -1,7 +1,5 @@
 use borrow.Author.Needs.{needs}
-use native.Mathlib.Omega.{arith}
 use Rattle.std.proofs.shelf.Lists.{length-map}
-use Rattle.std.proofs.shelf.Ways.{tells}
 use Rattle.board.proofs.table.TableBoard.count.Needs as need
 
 pub returns-then-self : need.returns-then-self

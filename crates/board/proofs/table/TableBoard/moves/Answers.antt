@@ -1,11 +1,11 @@
-use mathlib.Core.Path.{ap, sym, _∙_, subst}
+use mathlib.Core.Path.{ap, sym, _∙_}
 use lib.ListN.{length, getD}
 use native.Mathlib.Omega.{arith}
 use Rattle.board.specs.Fairness.{as-many}
 use Rattle.board.specs.Spot.{Spot}
 use Rattle.board.specs.Table.{kept, blank-record}
 use Rattle.board.specs.declared.records.Record.{Record}
-use Rattle.board.proofs.Kept.{Lies, shown-at, kept-lies}
+use Rattle.board.proofs.Kept.{shown-at, kept-lies}
 use Rattle.board.proofs.table.TableBoard.moves.Needs as need
 
 pub cast-result : need.cast-result
