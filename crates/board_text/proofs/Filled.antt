@@ -16,7 +16,8 @@ use Rattle.board.specs.Rising.{rising}
 use Rattle.board.specs.Spot.{Spot, all-moves}
 use Rattle.board.specs.declared.records.Record.{Record}
 use Rattle.board_text.specs.Put.{put}
-use Rattle.board_text.specs.Reading.{record-of, records-of, found}
+use Rattle.board_text.specs.Passes.{found}
+use Rattle.board_text.specs.Reading.{record-of, records-of}
 use Rattle.board_text.specs.Verdict.{Fault, is-spot-line, next-line, spot-written, spot-in, spots-in}
 use Rattle.board_text.proofs.Fours.{length-fours}
 use Rattle.board_text.proofs.Framed.{went-on, passed}

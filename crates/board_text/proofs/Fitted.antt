@@ -12,7 +12,8 @@ use Rattle.std.specs.Results.{isOk}
 use Rattle.std.specs.declared.result.Result.{Result}
 use Rattle.std.specs.declared.result.Result.the-variants.{Ok, Err}
 use Rattle.board.specs.Spot.{Spot, all-moves}
-use Rattle.board_text.specs.Reading.{records-of, fits, fitted, counts, found, board-in}
+use Rattle.board_text.specs.Passes.{found, board-in}
+use Rattle.board_text.specs.Reading.{records-of, fits, fitted, counts}
 use Rattle.board_text.specs.Verdict.{Fault, opening, spots-in, end-in, verdict}
 use Rattle.board_text.specs.declared.refusals.TextRefusal.the-variants.{NoRoom}
 use Rattle.board_text.proofs.Framed.{goes-on, went-on}

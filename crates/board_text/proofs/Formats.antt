@@ -11,7 +11,8 @@ use Rattle.board.specs.Table.{board-of}
 use Rattle.board.specs.declared.records.Record.{Record}
 use Rattle.board.proofs.Tallies.{few-moves}
 use Rattle.board_text.specs.Laws.{Gives-back}
-use Rattle.board_text.specs.Reading.{fitted, reading, counts, records-after, moves-after, board-in}
+use Rattle.board_text.specs.Passes.{board-in}
+use Rattle.board_text.specs.Reading.{fitted, reading, counts, records-after, moves-after}
 use Rattle.board_text.specs.Verdict.{Fault, verdict}
 use Rattle.board_text.proofs.Fitted.{board-is, counted, faulted, fitted-well}
 use Rattle.board_text.proofs.Tables.{gives-back}

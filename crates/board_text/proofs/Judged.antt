@@ -4,11 +4,12 @@ use mathlib.Core.List.{List, [], _∷_}
 use Prim.Native.Nat.{ℕ, _+_, _<_}
 use native.Mathlib.Nat.{zero-add}
 use native.Mathlib.Omega.{arith}
-use lib.ListN.{length, drop}
+use lib.ListN.{length}
 use Rattle.std.specs.declared.result.Result.{Result}
 use Rattle.std.specs.declared.result.Result.the-variants.{Ok, Err}
 use Rattle.board.specs.Spot.{Spot, all-moves}
-use Rattle.board_text.specs.Reading.{counts, tallied}
+use Rattle.board_text.specs.Passes.{tallied}
+use Rattle.board_text.specs.Reading.{counts}
 use Rattle.board_text.specs.Verdict.{Fault, and-then, next-line, count-in, opening, spots-in, total-in, nothing-more, end-in, verdict}
 use Rattle.board_text.proofs.Framed.{goes-on, stops}
 use Rattle.board_text.proofs.Texts.{spots-count}
@@ -46,24 +47,18 @@ spots-tallied (Ok p) m rest e =
 spots-tallied (Err f) m rest e = let never : _≡_ {A = ℕ} 0 1 = cc in absurd (omega arith)
 
 -- the first line, taken by a view that has taken none, gives a count
-pub opening-counts : (taken at place n number : ℕ) (t l : List ℕ) → taken ≡ 0 → number ≡ taken + 1 → next-line (taken + 1) (drop at t) ≡ Ok (l, drop place t) → Ok n ≡ count-in number l → opening (drop at t) ≡ Ok (n, drop place t)
-opening-counts taken at place n number t l none next h count =
-    let one : next-line 1 (drop at t) ≡ Ok (l, drop place t) = subst (λ (k : ℕ). next-line (k + 1) (drop at t) ≡ Ok (l, drop place t)) none h in
+pub opening-counts : (taken n number : ℕ) (t l r : List ℕ) → taken ≡ 0 → number ≡ taken + 1 → next-line (taken + 1) t ≡ Ok (l, r) → Ok n ≡ count-in number l → opening t ≡ Ok (n, r)
+opening-counts taken n number t l r none next h count =
+    let one : next-line 1 t ≡ Ok (l, r) = subst (λ (k : ℕ). next-line (k + 1) t ≡ Ok (l, r)) none h in
     let two : Ok n ≡ count-in 1 l = subst (λ (k : ℕ). Ok n ≡ count-in k l) (next ∙ ap (λ (k : ℕ). k + 1) none) count in
-    goes-on (next-line 1 (drop at t)) _ (l, drop place t) one ∙ goes-on (count-in 1 l) _ n (sym two)
+    goes-on (next-line 1 t) _ (l, r) one ∙ goes-on (count-in 1 l) _ n (sym two)
 
 -- or is refused for it
-pub opening-refused : (taken at place number : ℕ) (t l : List ℕ) (f : Fault) → taken ≡ 0 → number ≡ taken + 1 → next-line (taken + 1) (drop at t) ≡ Ok (l, drop place t) → Err f ≡ count-in number l → opening (drop at t) ≡ Err f
-opening-refused taken at place number t l f none next h count =
-    let one : next-line 1 (drop at t) ≡ Ok (l, drop place t) = subst (λ (k : ℕ). next-line (k + 1) (drop at t) ≡ Ok (l, drop place t)) none h in
+pub opening-refused : (taken number : ℕ) (t l r : List ℕ) (f : Fault) → taken ≡ 0 → number ≡ taken + 1 → next-line (taken + 1) t ≡ Ok (l, r) → Err f ≡ count-in number l → opening t ≡ Err f
+opening-refused taken number t l r f none next h count =
+    let one : next-line 1 t ≡ Ok (l, r) = subst (λ (k : ℕ). next-line (k + 1) t ≡ Ok (l, r)) none h in
     let two : Err f ≡ count-in 1 l = subst (λ (k : ℕ). Err f ≡ count-in k l) (next ∙ ap (λ (k : ℕ). k + 1) none) count in
-    goes-on (next-line 1 (drop at t)) _ (l, drop place t) one ∙ stops (count-in 1 l) _ f (sym two)
-
--- what was opened from a view that stands at the front of the text
-pub opened-at : (at place n : ℕ) (s t : List ℕ) → at ≡ 0 → s ≡ t → opening (drop at s) ≡ Ok (n, drop place s) → opening t ≡ Ok (n, drop place t)
-opened-at at place n s t front same h =
-    let one = subst (λ (k : ℕ). opening (drop k s) ≡ Ok (n, drop place s)) front h in
-    subst (λ (x : List ℕ). opening x ≡ Ok (n, drop place x)) same one
+    goes-on (next-line 1 t) _ (l, r) one ∙ stops (count-in 1 l) _ f (sym two)
 
 module _ (t r : List ℕ) (n : ℕ) (opened : opening t ≡ Ok (n, r)) where
   module _ (m : ℕ) (rest : List ℕ) (tally : tallied 0 (spots-in n n 2 r) ≡ Ok (m, rest)) where

@@ -1,4 +1,3 @@
-pub mod Advance
 pub mod Counts
 pub mod Filled
 pub mod Fitted

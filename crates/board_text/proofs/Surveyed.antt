@@ -9,7 +9,7 @@ use Rattle.std.specs.Results.{mapped}
 use Rattle.std.specs.declared.result.Result.{Result}
 use Rattle.std.specs.declared.result.Result.the-variants.{Ok, Err}
 use Rattle.board.specs.Spot.{Spot, all-moves}
-use Rattle.board_text.specs.Reading.{tallied}
+use Rattle.board_text.specs.Passes.{tallied}
 use Rattle.board_text.specs.Verdict.{Fault, and-then, next-line, spot-in, spots-in}
 use Rattle.board_text.proofs.Framed.{goes-on, stops}
 

@@ -4,6 +4,7 @@ pub mod Put
 pub mod Text
 pub mod Verdict
 pub mod Reading
+pub mod Passes
 pub mod Writing
 pub mod Laws
 pub mod Formatting

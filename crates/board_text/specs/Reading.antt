@@ -51,18 +51,3 @@ moves-after (Err e) ms = ms
 -- reading a text into slices of these lengths
 abbrev pub reading : List ℕ → ℕ → ℕ → Result (List Spot) Fault
 reading t records moves = fitted (verdict t) records moves
-
--- while positions are read: the moves so far, and the text that is left
-abbrev pub tallied : ℕ → Result (List Spot × List ℕ) Fault → Result (ℕ × List ℕ) Fault
-tallied before (Ok p) = Ok (before + length (all-moves (p .0)), p .1)
-tallied before (Err e) = Err e
-
--- the positions that were read
-abbrev pub found : Result (List Spot × List ℕ) Fault → List Spot
-found (Ok p) = p .0
-found (Err e) = []
-
--- the board that a text was judged to be
-abbrev pub board-in : Result (List Spot) Fault → List Spot
-board-in (Ok b) = b
-board-in (Err e) = []

@@ -1,5 +1,5 @@
 ghost use Prim.Native.Nat.{_+_, _≤_};
-ghost use lib.ListN.{length, drop};
+ghost use lib.ListN.{length};
 ghost use mathlib.Core.Bool.{true};
 ghost use mathlib.Core.Path.{_≡_};
 ghost use Rattle.board.specs.Spot.{all-moves};
@@ -7,7 +7,8 @@ ghost use Rattle.std.specs.Results.{isOk};
 ghost use Rattle.std.specs.declared.result.Result.the-variants.{Ok};
 ghost use Rattle.board_text.specs.Digits.{fours};
 ghost use Rattle.board_text.specs.Put.{put};
-ghost use Rattle.board_text.specs.Reading.{record-of, records-of, found, board-in};
+ghost use Rattle.board_text.specs.Passes.{found, board-in};
+ghost use Rattle.board_text.specs.Reading.{record-of, records-of};
 ghost use Rattle.board_text.specs.Verdict.{is-spot-line, spot-written, spots-in, verdict};
 use crate::digits::four_digits;
 use crate::digits::two_digits;
@@ -59,12 +60,12 @@ fn fill_spots(
 ) -> Result<(), (TextRefusal, u16)>
     requires taken { ⌜ now lines .taken ≡ 1 ⌝ }
     requires few { ⌜ count ≤ 512 ⌝ }
-    requires good { ⌜ isOk (spots-in count count 2 (drop (now lines .at) (now (now lines .text)))) ≡ true ⌝ }
+    requires good { ⌜ isOk (spots-in count count 2 (now (now lines .rest))) ≡ true ⌝ }
     requires records { ⌜ count ≤ length (now records) ⌝ }
-    requires moves { ⌜ length (all-moves (found (spots-in count count 2 (drop (now lines .at) (now (now lines .text)))))) ≤ length (now moves) ⌝ }
+    requires moves { ⌜ length (all-moves (found (spots-in count count 2 (now (now lines .rest))))) ≤ length (now moves) ⌝ }
     ensures done { λ r. ⌜ r ≡ Ok tt ⌝ }
-    ensures records { λ _. ⌜ now (records .exit) ≡ put 0 (records-of 0 (found (spots-in count count 2 (drop (now (lines .entry) .at) (now (now (lines .entry) .text)))))) (now (records .entry)) ⌝ }
-    ensures moves { λ _. ⌜ now (moves .exit) ≡ put 0 (all-moves (found (spots-in count count 2 (drop (now (lines .entry) .at) (now (now (lines .entry) .text)))))) (now (moves .entry)) ⌝ }
+    ensures records { λ _. ⌜ now (records .exit) ≡ put 0 (records-of 0 (found (spots-in count count 2 (now (now (lines .entry) .rest))))) (now (records .entry)) ⌝ }
+    ensures moves { λ _. ⌜ now (moves .exit) ≡ put 0 (all-moves (found (spots-in count count 2 (now (now (lines .entry) .rest))))) (now (moves .entry)) ⌝ }
 {
     let mut first = 0;
     for position in 0..count {

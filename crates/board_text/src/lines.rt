@@ -1,8 +1,7 @@
 ghost use Prim.Native.Nat.{_+_, _≤_, _<_};
-ghost use denote.Ref.{now};
 ghost use lib.ListN.{length, drop};
 ghost use mathlib.Core.Path.{_≡_};
-ghost use lib.Dec.{leb};
+ghost use lib.Dec.{eqb};
 ghost use Rattle.std.specs.Results.{Cases};
 ghost use Rattle.std.specs.declared.result.Result.the-variants.{Ok, Err};
 ghost use Rattle.board_text.specs.Verdict.{line-end, is-frame, next-line};
@@ -12,12 +11,10 @@ use crate::refusals::TextRefusal;
 // A view over the lines of a text.
 #[derive(Drop)]
 pub(crate) struct Lines<'a> {
-    text: &'a [u8],
-    // Where the next line begins.
-    at: usize,
+    // The text after the lines that were taken.
+    rest: &'a [u8],
     // How many lines were taken.
     taken: u16,
-    ghost within: { at ≤ length (now text) },
 }
 
 // How many bytes stand before the first LF: all of them where there is none.
@@ -66,13 +63,11 @@ fn first_line<'a>(text: &'a [u8], number: u16) -> Result<&'a [u8], (TextRefusal,
 
 impl<'a> Lines<'a> {
     pub(crate) fn new(text: &'a [u8]) -> Lines<'a>
-        ensures text { λ r. ⌜ now (r .text) ≡ now (text .entry) ⌝ }
-        ensures at { λ r. ⌜ r .at ≡ 0 ⌝ }
+        ensures rest { λ r. ⌜ now (r .rest) ≡ now (text .entry) ⌝ }
         ensures taken { λ r. ⌜ r .taken ≡ 0 ⌝ }
     {
         Lines {
-            text,
-            at: 0,
+            rest: text,
             taken: 0,
         }
     }
@@ -80,12 +75,12 @@ impl<'a> Lines<'a> {
     // Takes the next line, without its LF.
     pub(crate) fn next(&mut self) -> Result<&'a [u8], (TextRefusal, u16)>
         requires { ⌜ now self .taken < 1000 ⌝ }
-        ensures text { λ _. ⌜ now (now (self .exit) .text) ≡ now (now (self .entry) .text) ⌝ }
-        ensures line { λ r. ⌜ Cases r (λ l. next-line (now (self .entry) .taken + 1) (drop (now (self .entry) .at) (now (now (self .entry) .text))) ≡ Ok (now l, drop (now (self .exit) .at) (now (now (self .entry) .text)))) (λ e. next-line (now (self .entry) .taken + 1) (drop (now (self .entry) .at) (now (now (self .entry) .text))) ≡ Err e) ⌝ }
+        ensures line { λ r. ⌜ Cases r (λ l. next-line (now (self .entry) .taken + 1) (now (now (self .entry) .rest)) ≡ Ok (now l, now (now (self .exit) .rest))) (λ e. next-line (now (self .entry) .taken + 1) (now (now (self .entry) .rest)) ≡ Err e) ⌝ }
         ensures taken { λ r. ⌜ Cases r (λ _. now (self .exit) .taken ≡ now (self .entry) .taken + 1) (λ _. now (self .exit) ≡ now (self .entry)) ⌝ }
     {
-        let line = first_line(&self.text[self.at..], self.taken + 1)?;
-        self.at += line.len() + 1;
+        let rest = self.rest;
+        let line = first_line(rest, self.taken + 1)?;
+        self.rest = &rest[line.len() + 1..];
         self.taken += 1;
         Ok(line)
     }
@@ -99,8 +94,8 @@ impl<'a> Lines<'a> {
 
     // Whether no byte is left.
     pub(crate) fn is_empty(&self) -> bool
-        ensures { λ r. ⌜ r ≡ leb (length (now (now (self .entry) .text))) (now (self .entry) .at) ⌝ }
+        ensures { λ r. ⌜ r ≡ eqb (length (now (now (self .entry) .rest))) 0 ⌝ }
     {
-        self.text.len() <= self.at
+        self.rest.is_empty()
     }
 }

@@ -1,9 +1,9 @@
 ghost use Prim.Native.Nat.{_+_, _≤_, _<_};
-ghost use lib.ListN.{drop};
 ghost use mathlib.Core.Path.{_≡_};
 ghost use Rattle.std.specs.Results.{Cases};
 ghost use Rattle.std.specs.declared.result.Result.the-variants.{Ok, Err};
-ghost use Rattle.board_text.specs.Reading.{counts, tallied};
+ghost use Rattle.board_text.specs.Passes.{tallied};
+ghost use Rattle.board_text.specs.Reading.{counts};
 ghost use Rattle.board_text.specs.Verdict.{opening, spots-in, end-in, verdict};
 use crate::lines::Lines;
 use crate::parts::count_in;
@@ -14,8 +14,7 @@ use crate::refusals::TextRefusal;
 // Takes the first line, which gives the number of positions.
 pub(crate) fn opening(lines: &mut Lines) -> Result<u16, (TextRefusal, u16)>
     requires { ⌜ now lines .taken ≡ 0 ⌝ }
-    ensures text { λ _. ⌜ now (now (lines .exit) .text) ≡ now (now (lines .entry) .text) ⌝ }
-    ensures count { λ r. ⌜ Cases r (λ n. opening (drop (now (lines .entry) .at) (now (now (lines .entry) .text))) ≡ Ok (n, drop (now (lines .exit) .at) (now (now (lines .entry) .text)))) (λ e. opening (drop (now (lines .entry) .at) (now (now (lines .entry) .text))) ≡ Err e) ⌝ }
+    ensures count { λ r. ⌜ Cases r (λ n. opening (now (now (lines .entry) .rest)) ≡ Ok (n, now (now (lines .exit) .rest))) (λ e. opening (now (now (lines .entry) .rest)) ≡ Err e) ⌝ }
     ensures few { λ r. ⌜ Cases r (λ n. n ≤ 512) (λ _. Unit {0}) ⌝ }
     ensures taken { λ r. ⌜ Cases r (λ _. now (lines .exit) .taken ≡ 1) (λ _. Unit {0}) ⌝ }
 {
@@ -28,8 +27,7 @@ pub(crate) fn opening(lines: &mut Lines) -> Result<u16, (TextRefusal, u16)>
 fn survey_spots(lines: &mut Lines, count: u16) -> Result<u16, (TextRefusal, u16)>
     requires first { ⌜ now lines .taken ≡ 1 ⌝ }
     requires few { ⌜ count ≤ 512 ⌝ }
-    ensures text { λ _. ⌜ now (now (lines .exit) .text) ≡ now (now (lines .entry) .text) ⌝ }
-    ensures total { λ r. ⌜ Cases r (λ m. tallied 0 (spots-in count count 2 (drop (now (lines .entry) .at) (now (now (lines .entry) .text)))) ≡ Ok (m, drop (now (lines .exit) .at) (now (now (lines .entry) .text)))) (λ e. tallied 0 (spots-in count count 2 (drop (now (lines .entry) .at) (now (now (lines .entry) .text)))) ≡ Err e) ⌝ }
+    ensures total { λ r. ⌜ Cases r (λ m. tallied 0 (spots-in count count 2 (now (now (lines .entry) .rest))) ≡ Ok (m, now (now (lines .exit) .rest))) (λ e. tallied 0 (spots-in count count 2 (now (now (lines .entry) .rest))) ≡ Err e) ⌝ }
     ensures taken { λ r. ⌜ Cases r (λ _. now (lines .exit) .taken ≡ count + 1) (λ _. Unit {0}) ⌝ }
 {
     let mut total = 0;
@@ -43,7 +41,7 @@ fn survey_spots(lines: &mut Lines, count: u16) -> Result<u16, (TextRefusal, u16)
 // Takes the last line, which gives the total, and sees that nothing follows it.
 fn survey_end(lines: &mut Lines, total: u16) -> Result<(), (TextRefusal, u16)>
     requires { ⌜ now lines .taken < 900 ⌝ }
-    ensures { λ r. ⌜ r ≡ end-in total (now (lines .entry) .taken + 1) (drop (now (lines .entry) .at) (now (now (lines .entry) .text))) ⌝ }
+    ensures { λ r. ⌜ r ≡ end-in total (now (lines .entry) .taken + 1) (now (now (lines .entry) .rest)) ⌝ }
 {
     let line = lines.next()?;
     total_in(line, total, lines.number())?;

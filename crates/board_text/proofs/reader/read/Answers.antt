@@ -7,7 +7,8 @@ use lib.ListN.{length}
 use Rattle.std.proofs.shelf.Results.{err-from-errBy}
 use Rattle.std.specs.declared.result.Result.{Result}
 use Rattle.board.specs.Spot.{Spot, all-moves}
-use Rattle.board_text.specs.Reading.{fitted, counts, records-of, records-after, moves-after, board-in}
+use Rattle.board_text.specs.Passes.{board-in}
+use Rattle.board_text.specs.Reading.{fitted, counts, records-of, records-after, moves-after}
 use Rattle.board_text.specs.Verdict.{Fault, verdict}
 use Rattle.board_text.proofs.Fitted.{board-is, counted, faulted, fitted-well, fitted-short, length-records}
 use Rattle.board_text.proofs.Puts.{put-over}

@@ -10,8 +10,7 @@ returns-in-Break-count c =
     let lines = c .args .lines .now in
     let next = c .in-Continue-line .ensures tt in
     record {
-      text = next .text;
-      count = rw (p .1, p .2) (opening-refused (lines .taken) (lines .at) (c .next .last .self .at) (c .number .result) (lines .text .now) (c .in-Continue-line .line .now) (c .in-Break-count .field-0 .0) (c .pre) (c .number .ensures ∙ next .taken) (next .line) (c .in-Break-count .ensures tt .count));
+      count = rw (p .1, p .2) (opening-refused (lines .taken) (c .number .result) (lines .rest .now) (c .in-Continue-line .line .now) (c .next .last .self .rest .now) (c .in-Break-count .field-0 .0) (c .pre) (c .number .ensures ∙ next .taken) (next .line) (c .in-Break-count .ensures tt .count));
       few = rw (p .1) tt;
       taken = rw (p .1) tt;
     }
@@ -21,8 +20,7 @@ returns c =
     let lines = c .args .lines .now in
     let next = c .in-Continue-line .ensures tt in
     record {
-      text = next .text;
-      count = opening-counts (lines .taken) (lines .at) (c .next .last .self .at) (c .in-Continue-count .count) (c .number .result) (lines .text .now) (c .in-Continue-line .line .now) (c .pre) (c .number .ensures ∙ next .taken) (next .line) (c .in-Continue-count .ensures tt .count);
+      count = opening-counts (lines .taken) (c .in-Continue-count .count) (c .number .result) (lines .rest .now) (c .in-Continue-line .line .now) (c .next .last .self .rest .now) (c .pre) (c .number .ensures ∙ next .taken) (next .line) (c .in-Continue-count .ensures tt .count);
       few = c .in-Continue-count .ensures tt .few;
       taken = next .taken ∙ ap (λ (k : ℕ). k + 1) (c .pre);
     }

@@ -1,21 +1,18 @@
-use mathlib.Core.Path.{refl}
-use Prim.Native.Nat.{_+_}
+use mathlib.Core.Path.{refl, sym, ap, _∙_}
+use mathlib.Core.List.{List}
+use Prim.Native.Nat.{ℕ, _+_}
+use lib.ListN.{length}
 use Rattle.std.proofs.shelf.Lists.{take-rest}
-use Rattle.std.proofs.shelf.Results.{err-from-errBy}
-use Rattle.board_text.proofs.Advance.{one-line-on}
+use Rattle.std.specs.declared.result.Result.{Result}
+use Rattle.std.specs.declared.result.Result.the-variants.{Ok}
+use Rattle.board_text.specs.Verdict.{Fault}
 use Rattle.board_text.proofs.lines.Lines.next.Needs as need
-
-pub returns-in-Break-line : need.returns-in-Break-line
-returns-in-Break-line c =
-    let p = err-from-errBy (c .from-residual .result) (c .from-residual .ensures .1) in
-    let h = c .in-Break-line .ensures tt .line in
-    record { text = refl; line = rw (p .1, p .2) (rw take-rest at h); taken = rw (p .1) refl }
 
 pub returns : need.returns
 returns c =
-    let self = c .args .self .now in
+    let line = c .in-Continue-line .line .now in
+    let with : List ℕ → Result (List ℕ × List ℕ) Fault = λ r. Ok (line, r) in
     record {
-      text = refl;
-      line = one-line-on (self .taken + 1) (self .at) (self .text .now) (c .in-Continue-line .line .now) (c .in-Continue-line .ensures tt .line);
+      line = c .in-Continue-line .ensures tt .line ∙ ap with (sym (take-rest (c .args .self .now .rest .now) (length line + 1)));
       taken = refl;
     }
