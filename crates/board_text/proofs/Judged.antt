@@ -5,6 +5,7 @@ use Prim.Native.Nat.{ℕ, _+_, _<_}
 use native.Mathlib.Nat.{zero-add}
 use native.Mathlib.Omega.{arith}
 use lib.ListN.{length}
+use Rattle.std.specs.Results.{Cases}
 use Rattle.std.specs.declared.result.Result.{Result}
 use Rattle.std.specs.declared.result.Result.the-variants.{Ok, Err}
 use Rattle.board.specs.Spot.{Spot, all-moves}
@@ -46,19 +47,16 @@ spots-tallied (Ok p) m rest e =
     )
 spots-tallied (Err f) m rest e = let never : _≡_ {A = ℕ} 0 1 = cc in absurd (omega arith)
 
--- the first line, taken by a view that has taken none, gives a count
-pub opening-counts : (taken n number : ℕ) (t l r : List ℕ) → taken ≡ 0 → number ≡ taken + 1 → next-line (taken + 1) t ≡ Ok (l, r) → Ok n ≡ count-in number l → opening t ≡ Ok (n, r)
-opening-counts taken n number t l r none next h count =
+-- the first line, taken by a view that has taken none, gives a count or is refused for it
+pub opening-is : (taken number : ℕ) (t l r : List ℕ) → taken ≡ 0 → number ≡ taken + 1 → next-line (taken + 1) t ≡ Ok (l, r) → (a : Result ℕ Fault) → a ≡ count-in number l → Cases a (λ n. opening t ≡ Ok (n, r)) (λ f. opening t ≡ Err f)
+opening-is taken number t l r none next h a given =
     let one : next-line 1 t ≡ Ok (l, r) = subst (λ (k : ℕ). next-line (k + 1) t ≡ Ok (l, r)) none h in
-    let two : Ok n ≡ count-in 1 l = subst (λ (k : ℕ). Ok n ≡ count-in k l) (next ∙ ap (λ (k : ℕ). k + 1) none) count in
-    goes-on (next-line 1 t) _ (l, r) one ∙ goes-on (count-in 1 l) _ n (sym two)
-
--- or is refused for it
-pub opening-refused : (taken number : ℕ) (t l r : List ℕ) (f : Fault) → taken ≡ 0 → number ≡ taken + 1 → next-line (taken + 1) t ≡ Ok (l, r) → Err f ≡ count-in number l → opening t ≡ Err f
-opening-refused taken number t l r f none next h count =
-    let one : next-line 1 t ≡ Ok (l, r) = subst (λ (k : ℕ). next-line (k + 1) t ≡ Ok (l, r)) none h in
-    let two : Err f ≡ count-in 1 l = subst (λ (k : ℕ). Err f ≡ count-in k l) (next ∙ ap (λ (k : ℕ). k + 1) none) count in
-    goes-on (next-line 1 t) _ (l, r) one ∙ stops (count-in 1 l) _ f (sym two)
+    let two : a ≡ count-in 1 l = subst (λ (k : ℕ). a ≡ count-in k l) (next ∙ ap (λ (k : ℕ). k + 1) none) given in
+    by-case a (sym two) (goes-on (next-line 1 t) _ (l, r) one)
+  where
+    by-case : (a : Result ℕ Fault) → count-in 1 l ≡ a → opening t ≡ and-then (count-in 1 l) (λ n. Ok (n, r)) → Cases a (λ n. opening t ≡ Ok (n, r)) (λ f. opening t ≡ Err f)
+    by-case (Ok n) e o = o ∙ goes-on (count-in 1 l) _ n e
+    by-case (Err f) e o = o ∙ stops (count-in 1 l) _ f e
 
 module _ (t r : List ℕ) (n : ℕ) (opened : opening t ≡ Ok (n, r)) where
   module _ (m : ℕ) (rest : List ℕ) (tally : tallied 0 (spots-in n n 2 r) ≡ Ok (m, rest)) where

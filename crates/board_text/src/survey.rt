@@ -19,8 +19,7 @@ pub(crate) fn opening(lines: &mut Lines) -> Result<u16, (TextRefusal, u16)>
     ensures taken { λ r. ⌜ Cases r (λ _. now (lines .exit) .taken ≡ 1) (λ _. Unit {0}) ⌝ }
 {
     let line = lines.next()?;
-    let count = count_in(line, lines.number())?;
-    Ok(count)
+    count_in(line, lines.number())
 }
 
 // Takes the lines of `count` positions, and counts their moves.
