@@ -5,7 +5,8 @@ use crate::checks::THREE;
 use crate::checks::check_judged;
 use crate::checks::check_kept;
 use crate::checks::check_same;
-use crate::checks::judge_table;
+use crate::checks::read_answer;
+use crate::checks::write_answer;
 use board::Board;
 use board::Record;
 use board::RecordDebug;
@@ -15,8 +16,6 @@ use board::TableBoard;
 use board::count_label;
 use board::count_moves;
 use board::count_side;
-use board_text::read;
-use board_text::write;
 use std::test::*;
 
 const ACCEPTED: [(&str, u8, u16); 6] = [
@@ -36,7 +35,7 @@ const ACCEPTED: [(&str, u8, u16); 6] = [
 ];
 
 // The records and the moves of the board of three positions.
-const RECORDS: [Record; 3] = [
+pub(crate) const RECORDS: [Record; 3] = [
     Record {
         side: 0,
         label: 0,
@@ -57,7 +56,7 @@ const RECORDS: [Record; 3] = [
     },
 ];
 
-const MOVES: [u16; 5] = [1, 2, 0, 2, 2];
+pub(crate) const MOVES: [u16; 5] = [1, 2, 0, 2, 2];
 
 // Position, side, label, number of moves; there is no position 3.
 const POSITIONS: [(u16, u8, u8, u8); 5] = [
@@ -93,10 +92,8 @@ fn accepts_boards_within_the_limits() -> Result<(), Fail> {
 fn reads_three_positions_and_keeps_later_places() -> Result<(), Fail> {
     let mut records = [FILLER; 5];
     let mut moves = [7777; 8];
-    let Ok(counts) = read(THREE.as_bytes(), &mut records, &mut moves) else {
-        return Err(Fail::new("the text was refused"));
-    };
-    check_eq(counts, (3, 5))?;
+    let answer = read_answer(THREE.as_bytes(), &mut records, &mut moves);
+    check_eq(answer, ((3, 5), (0, 0)))?;
     check_same("records", &records[0..3], &RECORDS)?;
     check_same("moves", &moves[0..5], &MOVES)?;
     check_kept("later records", &records[3..5], FILLER)?;
@@ -104,46 +101,27 @@ fn reads_three_positions_and_keeps_later_places() -> Result<(), Fail> {
 }
 
 #[test]
-fn the_table_answers_for_what_was_read() -> Result<(), Fail> {
-    let mut records = [FILLER; 5];
-    let mut moves = [7777; 8];
-    let Ok(_) = read(THREE.as_bytes(), &mut records, &mut moves) else {
-        return Err(Fail::new("the text was refused"));
-    };
-    // The moves that follow are no position's, and do no harm.
-    check_eq(judge_table(&records[0..3], &moves), 0)?;
-    let table = Table::new(&records[0..3], &moves);
+fn a_table_answers_its_questions() -> Result<(), Fail> {
+    let table = Table::new(&RECORDS, &MOVES);
     check_eq(table.count(), 3)?;
-    for case in &POSITIONS {
-        let (position, side, label, moves) = *case;
+    for (position, side, label, moves) in &POSITIONS {
         let answers = (
-            table.side(position),
-            table.label(position),
-            table.moves(position),
+            table.side(*position),
+            table.label(*position),
+            table.moves(*position),
         );
-        check_eq(answers, (side, label, moves)).note(format_args!("position {position}"))?;
+        check_eq(answers, (*side, *label, *moves)).note(format_args!("position {position}"))?;
     }
-    for case in &PLACES {
-        let (position, place, to) = *case;
-        check_eq(table.move_at(position, place), to).note(format_args!(
-            "place {place} of position {position}"
-        ))?;
+    for (position, place, to) in &PLACES {
+        check_eq(table.move_at(*position, *place), *to).note(format_args!("{position}, {place}"))?;
     }
     Ok(())
 }
 
 #[test]
-fn writes_back_the_bytes_that_were_read_and_keeps_later_ones() -> Result<(), Fail> {
-    let mut records = [FILLER; 3];
-    let mut moves = [7777; 5];
-    let Ok(_) = read(THREE.as_bytes(), &mut records, &mut moves) else {
-        return Err(Fail::new("the text was refused"));
-    };
+fn writes_three_positions_and_keeps_later_bytes() -> Result<(), Fail> {
     let mut out = [b'#'; 60];
-    let Ok(length) = write(&Table::new(&records, &moves), &mut out) else {
-        return Err(Fail::new("the board was not written"));
-    };
-    check_eq(length, 55)?;
+    check_eq(write_answer(&RECORDS, &MOVES, &mut out), (55, 0))?;
     check_same("the text", &out[0..55], THREE.as_bytes())?;
     check_kept("later bytes", &out[55..60], b'#')
 }

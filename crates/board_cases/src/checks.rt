@@ -1,16 +1,10 @@
-// What tests of several modules check alike.
-ghost use mathlib.Core.Path.{_≡_};
-ghost use denote.Ref.{now};
-ghost use Rattle.board.specs.Refusals.{table-answer};
-ghost use Rattle.board.specs.Table.{sound-table};
-ghost use Rattle.board_text.specs.Reading.{reading, counts};
-ghost use Rattle.board_cases.specs.Numbers.{read-numbers, write-number, table-number};
+// What tests of several modules do alike. Answers are turned into plain numbers, in which the cases are
+// written; 0 stands where nothing was refused.
 use board::Record;
 use board::Table;
-use board::TableRefusal;
-use board_text::TextRefusal;
-use board_text::WriteRefusal;
+use board::TableBoard;
 use board_text::read;
+use board_text::write;
 use std::fmt::Debug;
 use std::test::*;
 
@@ -22,51 +16,43 @@ pub(crate) const FILLER: Record = Record {
     count: 7777,
 };
 
-// The refusal's number and line that reading answered, or (0, 0).
-pub(crate) fn read_numbers(answer: Result<(usize, usize), (TextRefusal, u16)>) -> (u8, u16)
-    ensures { λ r. ⌜ r ≡ read-numbers answer ⌝ }
-{
-    match answer {
-        Ok(_) => (0, 0),
-        Err((refusal, line)) => (refusal.number(), line),
+// The two counts that reading answers, and the refusal's number and line.
+pub(crate) fn read_answer(
+    text: &[u8],
+    records: &mut [Record],
+    moves: &mut [u16],
+) -> ((usize, usize), (u8, u16)) {
+    match read(text, records, moves) {
+        Ok(counts) => (counts, (0, 0)),
+        Err((refusal, line)) => ((0, 0), (refusal.number(), line)),
     }
 }
 
-// The refusal's number that writing answered, or 0.
-pub(crate) fn write_number(answer: Result<usize, WriteRefusal>) -> u8
-    ensures { λ r. ⌜ r ≡ write-number answer ⌝ }
-{
-    match answer {
-        Ok(_) => 0,
-        Err(refusal) => refusal.number(),
+// The length that writing the table answers, and the refusal's number.
+pub(crate) fn write_answer<'a>(
+    records: &'a [Record],
+    moves: &'a [u16],
+    out: &mut [u8],
+) -> (usize, u8) {
+    match write(&Table::new(records, moves), out) {
+        Ok(length) => (length, 0),
+        Err(refusal) => (0, refusal.number()),
     }
 }
 
-// The refusal's number that the question about a table answered, or 0.
-pub(crate) fn table_number(answer: Result<(), TableRefusal>) -> u8
-    ensures { λ r. ⌜ r ≡ table-number answer ⌝ }
-{
-    match answer {
+// The refusal's number that the question about the two slices answers.
+pub(crate) fn table_answer(records: &[Record], moves: &[u16]) -> u8 {
+    match Table::check(records, moves) {
         Ok(()) => 0,
         Err(refusal) => refusal.number(),
     }
 }
 
-// What a reader with room for 4 records and 32 moves says of the text: the refusal's number and line,
-// or (0, 0).
-pub(crate) fn judge(text: &[u8]) -> (u8, u16)
-    ensures { λ r. ⌜ r ≡ read-numbers (counts (reading (now (text .entry)) 4 32)) ⌝ }
-{
+// What a reader with room for 4 records and 32 moves says of the text.
+pub(crate) fn judge(text: &[u8]) -> (u8, u16) {
     let mut records = [FILLER; 4];
     let mut moves = [0; 32];
-    read_numbers(read(text, &mut records, &mut moves))
-}
-
-// What the question beforehand says of two slices: 20 where they are not sound, or 0.
-pub(crate) fn judge_table(records: &[Record], moves: &[u16]) -> u8
-    ensures { λ r. ⌜ r ≡ table-number (table-answer (sound-table (now (records .entry)) (now (moves .entry)))) ⌝ }
-{
-    table_number(Table::check(records, moves))
+    read_answer(text, &mut records, &mut moves).1
 }
 
 // The board of three positions that most tests begin from.

@@ -2,18 +2,12 @@
 use crate::checks::FILLER;
 use crate::checks::check_kept;
 use crate::checks::check_same;
-use crate::checks::read_numbers;
-use crate::checks::write_number;
+use crate::checks::read_answer;
+use crate::checks::write_answer;
 use board::Record;
 use board::RecordDebug;
 use board::RecordPartialEq;
-use board::Table;
-use board::TableBoard;
-use board::count_label;
-use board::count_moves;
-use board::count_side;
-use board_text::read;
-use board_text::write;
+use board_text::reformat;
 use std::alloc::AllocError;
 use std::alloc::Global;
 use std::test::*;
@@ -78,60 +72,49 @@ fn longest_moves(heap: Global) -> Result<Vec<u16>, AllocError> {
 #[test]
 fn reads_the_longest_text(rt: LibcRuntime) -> Result<(), Fail> {
     let text = longest_text(rt.alloc())?;
-    check_eq(text.len(), LENGTH)?;
     let mut records = vec![in rt.alloc(); FILLER; 512]?;
     let mut moves = vec![in rt.alloc(); 7777; 8192]?;
-    let Ok(counts) = read(
+    let answer = read_answer(
         text.as_slice(),
         records.as_mut_slice(),
         moves.as_mut_slice(),
-    ) else {
-        return Err(Fail::new("the text was refused"));
-    };
-    check_eq(counts, (512, 8192))?;
+    );
+    check_eq(answer, ((512, 8192), (0, 0)))?;
     let expected = longest_records(rt.alloc())?;
     check_same("records", records.as_slice(), expected.as_slice())?;
     let expected = longest_moves(rt.alloc())?;
     check_same("moves", moves.as_slice(), expected.as_slice())
 }
 
-#[test]
-fn refuses_the_longest_text_where_one_place_is_missing(rt: LibcRuntime) -> Result<(), Fail> {
-    let text = longest_text(rt.alloc())?;
-    let rooms = [(511, 8192), (512, 8191)];
-    for room in &rooms {
-        let (record_room, move_room) = *room;
-        let mut records = vec![in rt.alloc(); FILLER; record_room]?;
-        let mut moves = vec![in rt.alloc(); 7777; move_room]?;
-        let answer = read(
-            text.as_slice(),
-            records.as_mut_slice(),
-            moves.as_mut_slice(),
-        );
-        check_eq(read_numbers(answer), (18, 0)).note(format_args!("{record_room}, {move_room}"))?;
-        check_kept("records", records.as_slice(), FILLER)?;
-        check_kept("moves", moves.as_slice(), 7777)?;
-    }
-    Ok(())
-}
-
-#[test]
-fn writes_back_the_longest_text_where_it_just_fits(rt: LibcRuntime) -> Result<(), Fail> {
-    let text = longest_text(rt.alloc())?;
-    let mut records = vec![in rt.alloc(); FILLER; 512]?;
-    let mut moves = vec![in rt.alloc(); 7777; 8192]?;
-    let answer = read(
+// The longest text is refused by slices with so much room, and they are left as they were.
+fn check_no_room(heap: Global, record_room: usize, move_room: usize) -> Result<(), Fail> {
+    let text = longest_text(heap)?;
+    let mut records = vec![in heap; FILLER; record_room]?;
+    let mut moves = vec![in heap; 7777; move_room]?;
+    let answer = read_answer(
         text.as_slice(),
         records.as_mut_slice(),
         moves.as_mut_slice(),
     );
-    check_eq(read_numbers(answer), (0, 0))?;
-    let table = Table::new(records.as_slice(), moves.as_slice());
+    check_eq(answer, ((0, 0), (18, 0)))?;
+    check_kept("records", records.as_slice(), FILLER)?;
+    check_kept("moves", moves.as_slice(), 7777)
+}
+
+#[test]
+fn refuses_the_longest_text_where_one_place_is_missing(rt: LibcRuntime) -> Result<(), Fail> {
+    check_no_room(rt.alloc(), 511, 8192)?;
+    check_no_room(rt.alloc(), 512, 8191)
+}
+
+#[test]
+fn writes_the_longest_text_where_it_just_fits(rt: LibcRuntime) -> Result<(), Fail> {
+    let records = longest_records(rt.alloc())?;
+    let moves = longest_moves(rt.alloc())?;
     let mut out = vec![in rt.alloc(); b'#'; LENGTH]?;
-    let Ok(length) = write(&table, out.as_mut_slice()) else {
-        return Err(Fail::new("the board was not written"));
-    };
-    check_eq(length, LENGTH)?;
+    let answer = write_answer(records.as_slice(), moves.as_slice(), out.as_mut_slice());
+    check_eq(answer, (LENGTH, 0))?;
+    let text = longest_text(rt.alloc())?;
     check_same("the text", out.as_slice(), text.as_slice())
 }
 
@@ -139,29 +122,23 @@ fn writes_back_the_longest_text_where_it_just_fits(rt: LibcRuntime) -> Result<()
 fn does_not_write_the_longest_text_where_one_byte_is_missing(rt: LibcRuntime) -> Result<(), Fail> {
     let records = longest_records(rt.alloc())?;
     let moves = longest_moves(rt.alloc())?;
-    let table = Table::new(records.as_slice(), moves.as_slice());
     let mut out = vec![in rt.alloc(); b'#'; LENGTH - 1]?;
-    let answer = write(&table, out.as_mut_slice());
-    check_eq(write_number(answer), 19)?;
+    let answer = write_answer(records.as_slice(), moves.as_slice(), out.as_mut_slice());
+    check_eq(answer, (0, 19))?;
     check_kept("bytes", out.as_slice(), b'#')
 }
 
 #[test]
-fn counts_over_the_largest_board(rt: LibcRuntime) -> Result<(), Fail> {
-    let records = longest_records(rt.alloc())?;
-    let moves = longest_moves(rt.alloc())?;
-    let table = Table::new(records.as_slice(), moves.as_slice());
-    check_eq(count_moves(&table), 8192)?;
-    let sides = (
-        count_side(&table, 0),
-        count_side(&table, 1),
-        count_side(&table, 2),
-    );
-    check_eq(sides, (256, 256, 0))?;
-    let labels = (
-        count_label(&table, 0),
-        count_label(&table, 15),
-        count_label(&table, 16),
-    );
-    check_eq(labels, (32, 32, 0))
+fn reformats_the_longest_text(rt: LibcRuntime) -> Result<(), Fail> {
+    let text = longest_text(rt.alloc())?;
+    let done = reformat(rt.alloc(), text.as_slice())?;
+    check_same("the text", done.text.as_slice(), text.as_slice())?;
+    let Ok(summary) = done.outcome else {
+        return Err(Fail::new("the text was refused"));
+    };
+    check_eq(
+        (summary.controller, summary.kiln, summary.moves),
+        (256, 256, 8192),
+    )?;
+    check_kept("labels", &summary.labels, 32)
 }

@@ -1,5 +1,5 @@
 // Tables that are sound and tables that are not, and the numbers of all refusals.
-use crate::checks::judge_table;
+use crate::checks::table_answer;
 use board::Board;
 use board::Record;
 use board::Table;
@@ -71,7 +71,7 @@ fn record_of(case: (u8, u8, u16, u16)) -> Record {
 
 // The slices are refused, and the table over them is one kiln position with label 0 and no moves.
 fn check_bare<'a>(records: &'a [Record], moves: &'a [u16]) -> Result<(), Fail> {
-    check_eq(judge_table(records, moves), 20)?;
+    check_eq(table_answer(records, moves), 20)?;
     let table = Table::new(records, moves);
     check_eq(table.count(), 1)?;
     check_eq((table.side(0), table.label(0), table.moves(0)), (1, 0, 0))?;
@@ -81,7 +81,7 @@ fn check_bare<'a>(records: &'a [Record], moves: &'a [u16]) -> Result<(), Fail> {
 
 // The slices are not refused, and the table over them shows `count` positions.
 fn check_shown<'a>(records: &'a [Record], moves: &'a [u16], count: u16) -> Result<(), Fail> {
-    check_eq(judge_table(records, moves), 0)?;
+    check_eq(table_answer(records, moves), 0)?;
     check_eq(Table::new(records, moves).count(), count)
 }
 
