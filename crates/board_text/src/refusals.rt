@@ -63,6 +63,8 @@ impl WriteRefusal {
     pub fn number(&self) -> u8
         ensures { λ r. ⌜ r ≡ write-number-of (now (self .entry)) ⌝ }
     {
-        *self as u8
+        match self {
+            WriteRefusal::TooShort => 19,
+        }
     }
 }
