@@ -18,6 +18,10 @@ use Rattle.board.specs.Rising.{rising}
 use Rattle.board.specs.Table.{Sound, blank-record, spot-of, sound-record, sound-records, sound-table}
 use Rattle.board.specs.declared.records.Record.{Record}
 
+-- a move within the bounds is passed, and the next has to be above it
+pub rising-on : (n low m : ℕ) (ms : List ℕ) → low ≤ m → m < n → rising n low (m ∷ ms) ≡ rising n (m + 1) ms
+rising-on n low m ms from below = rw (le-leb low m from, lt-ltb m n below) refl
+
 -- a list that stays below n and ascends passes the test
 pub rising-from : (n low : ℕ) (ms : List ℕ) → (0 < length ms → low ≤ getD ms 0 0) → ((i : ℕ) → i < length ms → getD ms i 0 < n) → ((i : ℕ) → i + 1 < length ms → getD ms i 0 < getD ms (i + 1) 0) → rising n low ms ≡ true
 rising-from n low [] first within up = refl
