@@ -8,6 +8,8 @@ mod limits;
 #[cfg(test)]
 mod prefixes;
 #[cfg(test)]
+mod printed;
+#[cfg(test)]
 mod refusals;
 #[cfg(test)]
 mod room;
