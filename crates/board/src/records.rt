@@ -8,3 +8,13 @@ pub struct Record {
     // How many moves it has.
     pub count: u16,
 }
+
+impl Record {
+    // What stands for a record that is not there: all numbers are 0.
+    pub const BLANK: Record = Record {
+        side: 0,
+        label: 0,
+        first: 0,
+        count: 0,
+    };
+}

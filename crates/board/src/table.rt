@@ -1,10 +1,11 @@
+ghost use mathlib.Core.Bool.{cond};
 ghost use mathlib.Core.Path.{_≡_};
 ghost use denote.Ref.{now};
 ghost use lib.ListN.{getD};
 ghost use Rattle.std.specs.Orderings.{Decides};
 ghost use Rattle.std.specs.Results.{isOk};
 ghost use Rattle.board.specs.Fairness.{board-of-fair};
-ghost use Rattle.board.specs.Refusals.{table-answer};
+ghost use Rattle.board.specs.Refusals.{number-answered, table-answer};
 ghost use Rattle.board.specs.Table.{Sound, blank-record, sound-table, kept, board-of};
 use crate::board::Board;
 use crate::records::Record;
@@ -22,15 +23,9 @@ pub struct Table<'a> {
     ghost decided: { sound ≡ sound-table (now records) (now moves) },
 }
 
+// The one position of the bare board.
 const BARE: Record = Record {
     side: 1,
-    label: 0,
-    first: 0,
-    count: 0,
-};
-
-const BLANK: Record = Record {
-    side: 0,
     label: 0,
     first: 0,
     count: 0,
@@ -40,6 +35,7 @@ impl<'a> Table<'a> {
     // The question beforehand: whether the slices are sound, or refusal 20.
     pub fn check(records: &[Record], moves: &[u16]) -> Result<(), TableRefusal>
         ensures answer { λ r. ⌜ r ≡ table-answer (sound-table (now (records .entry)) (now (moves .entry))) ⌝ }
+        ensures number { λ r. ⌜ number-answered r ≡ cond (sound-table (now (records .entry)) (now (moves .entry))) 0 20 ⌝ }
         ensures means { λ r. ⌜ Decides (isOk r) (Sound (now (records .entry)) (now (moves .entry))) ⌝ }
     {
         if is_sound(records, moves) {
@@ -49,6 +45,7 @@ impl<'a> Table<'a> {
         }
     }
 
+    // The board over these slices, whatever they hold.
     pub fn new(records: &'a [Record], moves: &'a [u16]) -> Table<'a>
         ensures records { λ r. ⌜ now (r .records) ≡ now (records .entry) ⌝ }
         ensures moves { λ r. ⌜ now (r .moves) ≡ now (moves .entry) ⌝ }
@@ -69,12 +66,12 @@ impl<'a> Table<'a> {
         if self.sound {
             match self.records.get(position) {
                 Some(record) => *record,
-                None => BLANK,
+                None => Record::BLANK,
             }
         } else if position == 0 {
             BARE
         } else {
-            BLANK
+            Record::BLANK
         }
     }
 }

@@ -4,11 +4,11 @@ use mathlib.Core.List.{List, [], _∷_, _++_}
 use Prim.Native.Nat.{ℕ, _+_, _-_, _*_, _/_, _%_}
 use lib.Dec.{leb, ltb}
 
--- the byte is one of the digits 0 to 9
+-- the byte is one of the digits 0 to 9, which are the bytes 48 to 57
 abbrev pub is-decimal : ℕ → Bool
 is-decimal c = leb 48 c && leb c 57
 
--- the byte is one of the digits A to F
+-- the byte is one of the digits A to F, which are the bytes 65 to 70
 abbrev pub is-letter : ℕ → Bool
 is-letter c = leb 65 c && leb c 70
 

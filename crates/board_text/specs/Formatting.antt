@@ -11,7 +11,7 @@ use Rattle.board_text.specs.Refusals.{number-of}
 use Rattle.board_text.specs.Text.{text-of}
 use Rattle.board_text.specs.Verdict.{Fault}
 
--- a refusal's line: 1F, its number in two digits, its line in four, and LF
+-- a refusal's line: 1F (which is 31), its number in two digits, its line in four, and LF
 abbrev pub refusal-line : ℕ → ℕ → List ℕ
 refusal-line number line = hex2 31 ++ (hex2 number ++ (hex4 line ++ 10 ∷ []))
 

@@ -21,7 +21,7 @@ abbrev pub and-then : {A B : Type 0} → Result A Fault → (A → Result B Faul
 and-then (Ok a) f = f a
 and-then (Err e) f = Err e
 
--- how many bytes stand before the first LF
+-- how many bytes stand before the first LF, byte 10; all of them where there is none
 abbrev pub line-end : List ℕ → ℕ
 line-end [] = 0
 line-end (c ∷ cs) = cond (eqb c 10) 0 (suc (line-end cs))
@@ -37,7 +37,7 @@ next-line line t =
     (cond (is-frame (take (line-end t) t)) (Ok (take (line-end t) t, drop (line-end t + 1) t)) (Err (NotDigits, line)))
     (Err (NoLine, line))
 
--- a line begins with a kind: 0 and k
+-- a line begins with the digits of its kind, 0 and k; the byte of the digit 0 is 48
 abbrev pub is-kind : ℕ → List ℕ → Bool
 is-kind k l = eqb (getD l 0 0) 48 && eqb (getD l 1 0) (48 + k)
 
@@ -49,7 +49,7 @@ is-number-line k l = is-kind k l && eqb (length l) 6
 abbrev pub number-in : List ℕ → ℕ
 number-in l = four (getD l 2 0) (getD l 3 0) (getD l 4 0) (getD l 5 0)
 
--- a line of kind 2 with a side, a label and at most sixteen moves
+-- a line of kind 2 with a side, a label and at most sixteen moves: 6, 10, 14 .. or 70 digits
 abbrev pub is-spot-line : List ℕ → Bool
 is-spot-line l = is-kind 2 l && (leb 6 (length l) && (leb (length l) 70 && eqb ((length l - 6) % 4) 0))
 

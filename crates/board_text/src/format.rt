@@ -28,14 +28,6 @@ const MOST_MOVES: usize = 8192;
 
 const LONGEST_TEXT: usize = 36_366;
 
-// What the records hold before a text is read.
-const BLANK: Record = Record {
-    side: 0,
-    label: 0,
-    first: 0,
-    count: 0,
-};
-
 // The line that stands for a refusal, in the digits of board text.
 pub fn refusal_line(number: u8, line: u16) -> [u8; 9]
     ensures { λ r. ⌜ r ≡ refusal-line number line ⌝ }
@@ -115,7 +107,7 @@ fn reformat_over(
 pub fn reformat(heap: Global, input: &[u8]) -> Result<Formatted, AllocError>
     ensures { λ r. ⌜ made r (λ f. (vec-items (f .text) ≡ formatted (verdict (now (input .entry)))) × (f .outcome ≡ told (verdict (now (input .entry))))) ⌝ }
 {
-    let mut records = vec![in heap; BLANK; MOST_POSITIONS]?;
+    let mut records = vec![in heap; Record::BLANK; MOST_POSITIONS]?;
     let mut moves = vec![in heap; 0u16; MOST_MOVES]?;
     reformat_over(heap, input, records.as_mut_slice(), moves.as_mut_slice())
 }
