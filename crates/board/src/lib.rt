@@ -1,6 +1,7 @@
 // Boards: what one means, the questions that every board answers, and the board that shows a table.
 mod board;
 mod counts;
+mod limits;
 mod records;
 mod refusals;
 mod soundness;
@@ -11,6 +12,10 @@ pub use board::Board;
 pub use counts::count_label;
 pub use counts::count_moves;
 pub use counts::count_side;
+pub use limits::HIGHEST_LABEL;
+pub use limits::HIGHEST_SIDE;
+pub use limits::MOST_MOVES;
+pub use limits::MOST_POSITIONS;
 pub use records::Record;
 pub use records::RecordDebug;
 pub use records::RecordEq;

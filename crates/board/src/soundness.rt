@@ -1,9 +1,10 @@
-ghost use Prim.Native.Nat.{_<_};
-ghost use mathlib.Core.Bool.{true};
 ghost use mathlib.Core.Path.{_≡_};
-ghost use denote.Ref.{now};
 ghost use Rattle.board.specs.Rising.{rising};
 ghost use Rattle.board.specs.Table.{sound-table, sound-record};
+use crate::limits::HIGHEST_LABEL;
+use crate::limits::HIGHEST_SIDE;
+use crate::limits::MOST_MOVES;
+use crate::limits::MOST_POSITIONS;
 use crate::records::Record;
 
 // Whether the moves stay below `count` and strictly ascend.
@@ -24,7 +25,7 @@ fn ascend_below(count: u16, moves: &[u16]) -> bool
 fn keeps_limits(count: u16, record: &Record, moves: &[u16]) -> bool
     ensures { λ r. ⌜ r ≡ sound-record count (now (moves .entry)) (now («record» .entry)) ⌝ }
 {
-    if record.side > 1 || record.label > 15 || record.count > 16 {
+    if record.side > HIGHEST_SIDE || record.label > HIGHEST_LABEL || record.count > MOST_MOVES {
         return false;
     }
     if record.count == 0 {
@@ -39,7 +40,7 @@ fn keeps_limits(count: u16, record: &Record, moves: &[u16]) -> bool
 pub(crate) fn is_sound(records: &[Record], moves: &[u16]) -> bool
     ensures { λ r. ⌜ r ≡ sound-table (now (records .entry)) (now (moves .entry)) ⌝ }
 {
-    if records.is_empty() || records.len() > 512 {
+    if records.is_empty() || records.len() > MOST_POSITIONS as usize {
         return false;
     }
     let count = records.len() as u16;

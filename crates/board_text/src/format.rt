@@ -13,6 +13,8 @@ use crate::reader::read;
 use crate::refusals::TextRefusal;
 use crate::writer::write;
 use board::Board;
+use board::MOST_MOVES;
+use board::MOST_POSITIONS;
 use board::Record;
 use board::Summary;
 use board::Table;
@@ -21,11 +23,7 @@ use board::summarise;
 use std::alloc::AllocError;
 use std::alloc::Global;
 
-// The most positions, the most moves and the longest text that a board can have.
-const MOST_POSITIONS: usize = 512;
-
-const MOST_MOVES: usize = 8192;
-
+// The longest text that a board can have: 512 positions with 16 moves each.
 const LONGEST_TEXT: usize = 36_366;
 
 // The line that stands for a refusal, in the digits of board text.
@@ -107,7 +105,7 @@ fn reformat_over(
 pub fn reformat(heap: Global, input: &[u8]) -> Result<Formatted, AllocError>
     ensures { λ r. ⌜ made r (λ f. (vec-items (f .text) ≡ formatted (verdict (now (input .entry)))) × (f .outcome ≡ told (verdict (now (input .entry))))) ⌝ }
 {
-    let mut records = vec![in heap; Record::BLANK; MOST_POSITIONS]?;
-    let mut moves = vec![in heap; 0u16; MOST_MOVES]?;
+    let mut records = vec![in heap; Record::BLANK; MOST_POSITIONS as usize]?;
+    let mut moves = vec![in heap; 0u16; MOST_POSITIONS as usize * MOST_MOVES as usize]?;
     reformat_over(heap, input, records.as_mut_slice(), moves.as_mut_slice())
 }

@@ -10,6 +10,10 @@ ghost use Rattle.board_text.specs.Verdict.{is-number-line, number-in, count-in
 use crate::digits::four_digits;
 use crate::digits::two_digits;
 use crate::refusals::TextRefusal;
+use board::HIGHEST_LABEL;
+use board::HIGHEST_SIDE;
+use board::MOST_MOVES;
+use board::MOST_POSITIONS;
 
 // The number of a line that has one, if the line is of this kind.
 fn number_in(line: &[u8], kind: u8) -> Option<u16>
@@ -30,7 +34,7 @@ pub(crate) fn count_in(line: &[u8], number: u16) -> Result<u16, (TextRefusal, u1
     let Some(count) = number_in(line, 1) else {
         return Err((TextRefusal::NotDue, number));
     };
-    if count == 0 || count > 512 {
+    if count == 0 || count > MOST_POSITIONS {
         return Err((TextRefusal::BadCount, number));
     }
     Ok(count)
@@ -74,10 +78,10 @@ pub(crate) fn moves_in(line: &[u8], count: u16, number: u16) -> Result<u16, (Tex
     let [b'0', b'2', s0, s1, l0, l1, moves @ ..] = line else {
         return Err((TextRefusal::NotDue, number));
     };
-    if moves.len() > 64 || moves.len() % 4 != 0 {
+    if moves.len() > 4 * MOST_MOVES as usize || moves.len() % 4 != 0 {
         return Err((TextRefusal::NotDue, number));
     }
-    if two_digits(*s0, *s1) > 1 || two_digits(*l0, *l1) > 15 {
+    if two_digits(*s0, *s1) > HIGHEST_SIDE || two_digits(*l0, *l1) > HIGHEST_LABEL {
         return Err((TextRefusal::BadSpot, number));
     }
     if !moves_ascend(moves, count) {
