@@ -5,11 +5,11 @@ use lib.ListN.{length}
 use Rattle.board.specs.Spot.{Spot, all-moves}
 use Rattle.board_text.specs.Digits.{hex2, hex4, hex4s}
 
--- the first line: 01 and the number of positions in four digits; every line ends with LF, byte 10
+-- the first line: 01, and four digits for how many positions there are; LF, byte 10, closes every line
 abbrev pub first-line : List Spot → List ℕ
 first-line b = hex2 1 ++ (hex4 (length b) ++ 10 ∷ [])
 
--- the line of a position: 02, side and label in two digits each, each move in four
+-- the line of a position: 02, two digits for the side, two for the label, four for each move
 abbrev pub spot-line : Spot → List ℕ
 spot-line s = hex2 2 ++ (hex2 (s .side) ++ (hex2 (s .label) ++ (hex4s (s .moves) ++ 10 ∷ [])))
 
@@ -18,7 +18,7 @@ abbrev pub spot-lines : List Spot → List ℕ
 spot-lines [] = []
 spot-lines (s ∷ b) = spot-line s ++ spot-lines b
 
--- the last line: 03 and the total of all moves in four digits
+-- the last line: 03, and four digits for how many moves there are in all
 abbrev pub last-line : List Spot → List ℕ
 last-line b = hex2 3 ++ (hex4 (length (all-moves b)) ++ 10 ∷ [])
 
