@@ -2,8 +2,8 @@ use Rattle.std.proofs.Common.{arith}
 use Rattle.board.proofs.Tallies.{moves_more, no_moves_left, few-moves}
 use Rattle.board.proofs.counts.count_moves.Goals as goal
 
-pub overflow-add-total : goal.overflow-add-total
-overflow-add-total g c =
+pub overflow_add-total : goal.overflow_add-total
+overflow_add-total g c =
     let board = g.B.Board.meaning c.args.board.now in
     let fair = g.B.Board.fair c.args.board.now in
     let most = fair.most in

@@ -3,8 +3,8 @@ use Rattle.std.proofs.lemmas.Bool.Decides.{nat_tests}
 use Rattle.board.proofs.Tallies.{how_many-most, passing_more, none-passing}
 use Rattle.board.proofs.counts.count_side.Goals as goal
 
-pub overflow-add-total : goal.overflow-add-total
-overflow-add-total g c =
+pub overflow_add-total : goal.overflow_add-total
+overflow_add-total g c =
     let most = how_many-most (λ s. eqb s.side c.args.side) (g.B.Board.meaning c.args.board.now) in
     let fair = (g.B.Board.fair c.args.board.now).most in
     omega arith

@@ -10,14 +10,14 @@ loop-label-preserved g c =
     let b = g.B.Board.meaning c.args.board.now in
     let long = c.loop-label.invariant.0 in (
       rw length-set long,
-      rw c.count-label.ensures (fill_by_more (λ k. how_many (λ s. eqb s.label k) b) c.loop-label.labels c.loop-label.label 0 (omega arith) c.loop-label.invariant.1),
+      rw c.count_label.ensures (fill_by_more (λ k. how_many (λ s. eqb s.label k) b) c.loop-label.labels c.loop-label.label 0 (omega arith) c.loop-label.invariant.1),
     )
 
 pub returns : goal.returns
 returns g c =
     let b = g.B.Board.meaning c.args.board.now in
     let all = fill_by_all (λ k. how_many (λ s. eqb s.label k) b) c.loop-label.labels 16 0 c.loop-label.invariant.0 (λ k lt. c.loop-label.invariant.1 k (omega arith)) in
-    let one = c.count-side.ensures in
-    let two = c.count-side-2.ensures in
-    let three = c.count-moves.ensures in
+    let one = c.count_side.ensures in
+    let two = c.count_side-2.ensures in
+    let three = c.count_moves.ensures in
     cc

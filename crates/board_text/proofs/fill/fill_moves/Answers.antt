@@ -10,6 +10,6 @@ loop-rest-preserved c =
     let more = fours-more c.loop-rest.rest.now long in
     let room = c.loop-rest.invariant.1 in
     let one = ap length more in (
-      rw c.four-digits.ensures (sym (ap (λ (x : List ℕ). put c.loop-rest.place x c.loop-rest.moves) more) ∙ c.loop-rest.invariant.0),
+      rw c.four_digits.ensures (sym (ap (λ (x : List ℕ). put c.loop-rest.place x c.loop-rest.moves) more) ∙ c.loop-rest.invariant.0),
       rw length-set (omega arith),
     )

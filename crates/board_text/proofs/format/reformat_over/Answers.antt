@@ -10,8 +10,8 @@ use Rattle.board_text.specs.Verdict.{Fault}
 use Rattle.board_text.proofs.Formats.{fault-is, read-means}
 use Rattle.board_text.proofs.format.reformat_over.Goals as goal
 
-pub slice-bounds-new-end : goal.slice-bounds-new-end
-slice-bounds-new-end c =
+pub slice_bounds-new-end : goal.slice_bounds-new-end
+slice_bounds-new-end c =
     let got = read-means c.args.input.now c.args.records.now c.args.moves.now c.requires.records c.requires.moves c.in-Ok.count c.in-Ok.field-0-1 c.in-Ok.ensures.answer in
     let within : c.in-Ok.count ≤ length c.read.new.records = omega (arith, got.within, c.read.auto.records) in
     search rules

@@ -4,16 +4,16 @@ use Rattle.std.proofs.lemmas.Bool.Decides.{nat_tests}
 use Rattle.board_text.specs.Digits.{all_digits}
 use Rattle.board_text.proofs.lines.is_frame.Goals as goal
 
-pub returns-then-not-is-digit : goal.returns-then-not-is-digit
-returns-then-not-is-digit c =
+pub returns-then-not-is_digit : goal.returns-then-not-is_digit
+returns-then-not-is_digit c =
     let e = at_drop_more all_digits c.args.line.now c.loop-byte.byte-index 0 (omega arith) in
-    let no = c.if-not-is-digit.ensures in
+    let no = c.if-not-is_digit.ensures in
     grind (arith, nat_tests)
 
 pub loop-byte-preserved : goal.loop-byte-preserved
 loop-byte-preserved c =
     let e = at_drop_more all_digits c.args.line.now c.loop-byte.byte-index 0 (omega arith) in
-    let yes = c.if-not-is-digit.ensures in
+    let yes = c.if-not-is_digit.ensures in
     grind (arith, nat_tests)
 
 pub returns : goal.returns

@@ -17,10 +17,10 @@ loop-rest-preserved c =
     let n = c.args.count in
     let low = c.loop-rest.low in
     let rest = c.loop-rest.rest.now in
-    let position = c.four-digits-position.result in
+    let position = c.four_digits-position.result in
     let long : 4 ≤ length rest = search rules in
     let tail = fours (take (length rest - 4) (drop 4 rest)) in
     sym (rising-on n low position tail (omega arith) (omega arith))
-    ∙ ap (λ (m : ℕ). rising n low (m ∷ tail)) c.four-digits-position.ensures
+    ∙ ap (λ (m : ℕ). rising n low (m ∷ tail)) c.four_digits-position.ensures
     ∙ sym (ap (rising n low) (fours-more rest long))
     ∙ c.loop-rest.invariant

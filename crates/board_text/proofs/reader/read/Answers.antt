@@ -9,10 +9,10 @@ use Rattle.board_text.proofs.Puts.{put-over}
 use Rattle.board_text.proofs.Texts.{judged_exactly}
 use Rattle.board_text.proofs.reader.read.Goals as goal
 
-pub returns-in-err-count : goal.returns-in-err-count
-returns-in-err-count c =
-    let p = err_from_is_err_and c.from-residual.result c.from-residual.ensures.1 in
-    let v = faulted (verdict c.args.text.now) c.in-err-count.field-0.0 c.in-err-count.ensures in
+pub returns-in_err-count : goal.returns-in_err-count
+returns-in_err-count c =
+    let p = err_from_is_err_and c.from_residual.result c.from_residual.ensures.1 in
+    let v = faulted (verdict c.args.text.now) c.in_err-count.field-0.0 c.in_err-count.ensures in
     let got = ap (λ (x : Result (List Spot) Fault). fitted x (length c.args.records.now) (length c.args.moves.now)) v in
     record {
       answer = rw (p.1, p.2) (sym (ap counts got));
@@ -23,7 +23,7 @@ returns-in-err-count c =
 
 pub returns-then-records-count : goal.returns-then-records-count
 returns-then-records-count c =
-    let v = counted (verdict c.args.text.now) c.in-ok-count.count c.in-ok-count.total c.in-ok-count.ensures in
+    let v = counted (verdict c.args.text.now) c.in_ok-count.count c.in_ok-count.total c.in_ok-count.ensures in
     let count = v.count in
     let total = v.total in
     let b = board_in (verdict c.args.text.now) in
@@ -38,21 +38,21 @@ returns-then-records-count c =
 
 pub fill-requires : goal.fill-requires
 fill-requires c =
-    let v = counted (verdict c.args.text.now) c.in-ok-count.count c.in-ok-count.total c.in-ok-count.ensures in
+    let v = counted (verdict c.args.text.now) c.in_ok-count.count c.in_ok-count.total c.in_ok-count.ensures in
     let count = v.count in
     let total = v.total in
     record { good = v.good; records = omega arith; moves = omega arith }
 
 pub returns : goal.returns
 returns c =
-    let v = counted (verdict c.args.text.now) c.in-ok-count.count c.in-ok-count.total c.in-ok-count.ensures in
+    let v = counted (verdict c.args.text.now) c.in_ok-count.count c.in_ok-count.total c.in_ok-count.ensures in
     let count = v.count in
     let total = v.total in
     let b = board_in (verdict c.args.text.now) in
     let many = length_records 0 b in
     let got = fitted-well (verdict c.args.text.now) v.good (length c.args.records.now) (length c.args.moves.now) (omega arith) (omega arith) in
     record {
-      answer = c.in-ok-count.ensures ∙ ap counts (board_is (verdict c.args.text.now) v.good) ∙ sym (ap counts got);
+      answer = c.in_ok-count.ensures ∙ ap counts (board_is (verdict c.args.text.now) v.good) ∙ sym (ap counts got);
       records = c.fill.ensures.records ∙ put-over (records_of 0 b) c.args.records.now (omega arith) ∙ sym (ap (λ (x : Result (List Spot) Fault). records_after x c.args.records.now) got);
       moves = c.fill.ensures.moves ∙ put-over (all_moves b) c.args.moves.now (omega arith) ∙ sym (ap (λ (x : Result (List Spot) Fault). moves_after x c.args.moves.now) got);
       exact = judged_exactly c.args.text.now;

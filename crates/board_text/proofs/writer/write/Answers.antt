@@ -21,13 +21,13 @@ returns-then-out-needed g c =
       known = λ a other same. one_text a board other fair same;
     }
 
-pub write-spots-end-requires : goal.write-spots-end-requires
-write-spots-end-requires g c =
+pub write_spots-end-requires : goal.write_spots-end-requires
+write_spots-end-requires g c =
     let long = spot_lines-length (g.B.Board.meaning c.args.board.now) in
     omega arith
 
-pub write-number-line-requires-2 : goal.write-number-line-requires-2
-write-number-line-requires-2 g c =
+pub write_number_line-requires-2 : goal.write_number_line-requires-2
+write_number_line-requires-2 g c =
     let long = spot_lines-length (g.B.Board.meaning c.args.board.now) in
     omega arith
 
@@ -36,9 +36,9 @@ returns g c =
     let board = g.B.Board.meaning c.args.board.now in
     let fair = g.B.Board.fair c.args.board.now in
     let long = text_length board in
-    let as_long : 7 * (c.count-count.result + 2) + 4 * c.count-moves-total.result ≡ length (text_of board) = omega arith in
+    let as_long : 7 * (c.count-count.result + 2) + 4 * c.count_moves-total.result ≡ length (text_of board) = omega arith in
     let after =
-    text_parts board _ _ _ c.args.out.now _ _ _ c.write-number-line.ensures c.write-spots-end.ensures.lines c.write-number-line-2.ensures (omega arith) (omega arith) (omega arith)
+    text_parts board _ _ _ c.args.out.now _ _ _ c.write_number_line.ensures c.write_spots-end.ensures.lines c.write_number_line-2.ensures (omega arith) (omega arith) (omega arith)
     ∙ filled (text_of board) c.args.out.now (omega arith) in
     record {
       answer = ap Ok as_long ∙ answered (text_of board) c.args.out.now (omega arith);

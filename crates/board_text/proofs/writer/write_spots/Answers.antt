@@ -6,8 +6,8 @@ use Rattle.board_text.specs.Text.{spot_lines}
 use Rattle.board_text.proofs.Steps.{spot_step, spot_shorter}
 use Rattle.board_text.proofs.writer.write_spots.Goals as goal
 
-pub write-spot-next-requires : goal.write-spot-next-requires
-write-spot-next-requires g c =
+pub write_spot-next-requires : goal.write_spot-next-requires
+write_spot-next-requires g c =
     let shorter = spot_shorter c.loop-v.v (g.B.Board.meaning c.args.board.now) (omega arith) in
     omega arith
 

@@ -2,8 +2,8 @@ use Rattle.std.proofs.Common.{ℕ, ◌+◌, ◌*◌, get_or, sym, ap, ◌∙◌,
 use Rattle.meter.proofs.Horner.{before_more, before-few, before-all}
 use Rattle.meter.proofs.counters.number_of.Goals as goal
 
-pub overflow-mul-total : goal.overflow-mul-total
-overflow-mul-total c =
+pub overflow_mul-total : goal.overflow_mul-total
+overflow_mul-total c =
     let ns = c.args.limits.now in
     let cs = c.args.counters.now in
     let k = c.loop-k.k in
@@ -13,8 +13,8 @@ overflow-mul-total c =
     let most = c.requires.few in
     omega arith
 
-pub overflow-add-total-in-loop-k : goal.overflow-add-total-in-loop-k
-overflow-add-total-in-loop-k c =
+pub overflow_add-total-in-loop-k : goal.overflow_add-total-in-loop-k
+overflow_add-total-in-loop-k c =
     let ns = c.args.limits.now in
     let cs = c.args.counters.now in
     let k = c.loop-k.k in

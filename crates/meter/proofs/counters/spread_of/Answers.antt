@@ -2,8 +2,8 @@ use Rattle.std.proofs.Common.{◌+◌, ◌*◌, get_or, sym, ◌∙◌, arith}
 use Rattle.meter.proofs.Horner.{weight-more, weight-all, factor_few}
 use Rattle.meter.proofs.counters.spread_of.Goals as goal
 
-pub overflow-mul-total : goal.overflow-mul-total
-overflow-mul-total c =
+pub overflow_mul-total : goal.overflow_mul-total
+overflow_mul-total c =
     let ns = c.args.limits.now in
     let k = c.loop-k.k in
     let t = c.loop-k.total in

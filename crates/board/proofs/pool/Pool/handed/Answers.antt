@@ -18,12 +18,12 @@ returns-in-0-default c =
     let l = lands-handing c.args.self.now.buffers c.args.state c.args.self.now.known.1 c.requires.inside c.args.place c.requires.there c.requires.apart c.requires.turn (record { first = c.args.place; second = c.args.state.second; side = 1 }) (grind (arith, nat_tests)) (grind (arith, nat_tests)) refl in
     record { inside = l.inside; number = l.number }
 
-pub returns-in-default-eq0 : goal.returns-in-default-eq0
-returns-in-default-eq0 c =
+pub returns-in_default-eq0 : goal.returns-in_default-eq0
+returns-in_default-eq0 c =
     let l = lands-handing c.args.self.now.buffers c.args.state c.args.self.now.known.1 c.requires.inside c.args.place c.requires.there c.requires.apart c.requires.turn (record { first = c.args.state.first; second = c.args.place; side = 1 }) (grind (arith, nat_tests)) (grind (arith, nat_tests)) refl in
     record { inside = l.inside; number = l.number }
 
-pub returns-in-default : goal.returns-in-default
-returns-in-default c =
+pub returns-in_default : goal.returns-in_default
+returns-in_default c =
     let l = lands-handing c.args.self.now.buffers c.args.state c.args.self.now.known.1 c.requires.inside c.args.place c.requires.there c.requires.apart c.requires.turn (record { first = c.args.state.first; second = c.args.state.second; side = 1 }) (grind (arith, nat_tests)) (grind (arith, nat_tests)) refl in
     record { inside = l.inside; number = l.number }

@@ -2,14 +2,14 @@ use Rattle.std.proofs.Common.{arith}
 use Rattle.board.proofs.PoolNumbers.{count_most, number-below}
 use Rattle.board.proofs.pool.Pool.number.Goals as goal
 
-pub overflow-mul-result-2 : goal.overflow-mul-result-2
-overflow-mul-result-2 c =
+pub overflow_mul-result-2 : goal.overflow_mul-result-2
+overflow_mul-result-2 c =
     let most = count_most c.args.self.now.buffers c.args.self.now.known.1 in
     let below = number-below c.args.self.now.buffers c.args.state c.requires in
     omega arith
 
-pub overflow-add-result-2 : goal.overflow-add-result-2
-overflow-add-result-2 c =
+pub overflow_add-result-2 : goal.overflow_add-result-2
+overflow_add-result-2 c =
     let most = count_most c.args.self.now.buffers c.args.self.now.known.1 in
     let below = number-below c.args.self.now.buffers c.args.state c.requires in
     omega arith

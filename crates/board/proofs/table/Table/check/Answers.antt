@@ -5,12 +5,12 @@ use Rattle.board.specs.Table.{sound_table}
 use Rattle.board.proofs.Decided.{decides_sound}
 use Rattle.board.proofs.table.Table.check.Goals as goal
 
-pub returns-then-is-sound : goal.returns-then-is-sound
-returns-then-is-sound c =
-    let yes : true ≡ sound_table c.args.records.now c.args.moves.now = c.if-is-sound.ensures in
+pub returns-then-is_sound : goal.returns-then-is_sound
+returns-then-is_sound c =
+    let yes : true ≡ sound_table c.args.records.now c.args.moves.now = c.if-is_sound.ensures in
     record { answer = ap table_answer yes; number = ap (λ (b : Bool). cond b 0 20) yes; means = Decides-at true _ yes (decides_sound c.args.records.now c.args.moves.now) }
 
-pub returns-else-is-sound : goal.returns-else-is-sound
-returns-else-is-sound c =
-    let not : false ≡ sound_table c.args.records.now c.args.moves.now = c.if-is-sound.ensures in
+pub returns-else-is_sound : goal.returns-else-is_sound
+returns-else-is_sound c =
+    let not : false ≡ sound_table c.args.records.now c.args.moves.now = c.if-is_sound.ensures in
     record { answer = ap table_answer not; number = ap (λ (b : Bool). cond b 0 20) not; means = Decides-at false _ not (decides_sound c.args.records.now c.args.moves.now) }

@@ -6,8 +6,8 @@ use Rattle.board.specs.declared.records.Record.{Record}
 use Rattle.board.proofs.Kept.{shown-at, kept-lies}
 use Rattle.board.proofs.table.TableBoard.moves.Goals as goal
 
-pub overflow-cast-result : goal.overflow-cast-result
-overflow-cast-result c =
+pub overflow_cast-result : goal.overflow_cast-result
+overflow_cast-result c =
     let lies = kept-lies c.args.self.now.records.now c.args.self.now.moves.now c.args.position in
     let few = lies.few in
     let same = ap (λ (r : Record). r.count) c.record.ensures in

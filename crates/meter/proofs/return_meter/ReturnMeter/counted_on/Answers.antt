@@ -13,11 +13,11 @@ loop-k-preserved g c =
     let b = g.B.Board.meaning c.args.board.now in
     let long = c.loop-k.invariant.0 in (
       rw length-set long,
-      rw c.count-label.ensures (fill_by_more (λ j. how_many (λ s. eqb s.label (2 * j + 1)) b) c.loop-k.limits c.loop-k.k 0 (omega arith) c.loop-k.invariant.1),
+      rw c.count_label.ensures (fill_by_more (λ j. how_many (λ s. eqb s.label (2 * j + 1)) b) c.loop-k.limits c.loop-k.k 0 (omega arith) c.loop-k.invariant.1),
     )
 
-pub invariant-of-result : goal.invariant-of-result
-invariant-of-result g c =
+pub invariant_of-result : goal.invariant_of-result
+invariant_of-result g c =
     let b = g.B.Board.meaning c.args.board.now in
     let all : c.loop-k.limits ≡ limits_on b = fill_by_all (λ j. how_many (λ s. eqb s.label (2 * j + 1)) b) c.loop-k.limits 8 0 c.loop-k.invariant.0 (λ j lt. c.loop-k.invariant.1 j (omega arith)) in
     let sums = ap total all in

@@ -8,8 +8,8 @@ use Rattle.meter.proofs.Compared.{memory-rank}
 use Rattle.meter.proofs.Stepped.{seen_none, seen-memory, seen-overflow}
 use Rattle.meter.proofs.return_meter.ReturnMeter.rank.Goals as goal
 
-pub number-of-requires : goal.number-of-requires
-number-of-requires c =
+pub number_of-requires : goal.number_of-requires
+number_of-requires c =
     let m = c.args.self.now in
     let x = c.args.x in
     record {
@@ -17,13 +17,13 @@ number-of-requires c =
       few = spread-few m.limits m.few.0 m.few.1;
     }
 
-pub overflow-add-result : goal.overflow-add-result
-overflow-add-result c =
+pub overflow_add-result : goal.overflow_add-result
+overflow_add-result c =
     let m = c.args.self.now in
     let x = c.args.x in
     let few = spread-few m.limits m.few.0 m.few.1 in
     let below = number-below m.limits x.counters (seen-memory x.mark (within m.limits x.counters) x.counters c.in-Memory.ensures).1 in
-    let same = c.number-of.ensures in
+    let same = c.number_of.ensures in
     omega arith
 
 pub returns-in-None : goal.returns-in-None
@@ -38,7 +38,7 @@ returns-in-Memory c =
     let ns = c.args.self.now.limits in
     let x = c.args.x in
     let seen = (seen-memory x.mark (within ns x.counters) x.counters c.in-Memory.ensures).0 in
-    let value = ap (λ (n : ℕ). n + 1) c.number-of.ensures ∙ sym (ap (rank_in (spread ns) (number ns)) seen) in
+    let value = ap (λ (n : ℕ). n + 1) c.number_of.ensures ∙ sym (ap (rank_in (spread ns) (number ns)) seen) in
     record { value = value; mixed = λ m. value ∙ memory-rank ns x m }
 
 pub returns-in-Overflow : goal.returns-in-Overflow

@@ -6,8 +6,8 @@ use Rattle.meter.specs.ReturnLaws.{return-laws}
 use Rattle.meter.proofs.Stepped.{seen_none, seen-memory, seen-overflow, leads, stays, greatest-at}
 use Rattle.meter.proofs.return_meter.ReturnMeterMeter.down.Goals as goal
 
-pub returns-then-label-gt-HIGHEST-LABEL : goal.returns-then-label-gt-HIGHEST-LABEL
-returns-then-label-gt-HIGHEST-LABEL c =
+pub returns-then-label-gt-HIGHEST_LABEL : goal.returns-then-label-gt-HIGHEST_LABEL
+returns-then-label-gt-HIGHEST_LABEL c =
     let m = c.args.self.now in
     let ns = m.limits in
     let value = stays c.args.y _ c.args.label (omega arith) in
