@@ -5,6 +5,7 @@ mod generate;
 use generate::{names_pool, pool_text};
 use std::env;
 use std::io::Write;
+use std::process::ExitCode;
 
 const USAGE: &str = "usage: boardgen pool Q, with Q buffers from 1 to 7";
 
@@ -28,13 +29,15 @@ fn print(rt: &HostRuntime, word: &str) -> anyhow::Result<()> {
     Ok(())
 }
 
-fn main(rt: HostRuntime) -> anyhow::Result<()> {
-    match asked(&rt) {
-        Ok(Some(word)) => print(&rt, word.as_str()),
-        Ok(None) => {
-            eprintln!(rt; "{USAGE}")?;
-            Err(USAGE.into())
+fn main(rt: HostRuntime) -> anyhow::Result<ExitCode> {
+    match asked(&rt)? {
+        Some(word) => {
+            print(&rt, word.as_str())?;
+            Ok(ExitCode::SUCCESS)
         }
-        Err(error) => Err(error),
+        None => {
+            eprintln!(rt; "{USAGE}")?;
+            Ok(ExitCode::FAILURE)
+        }
     }
 }
