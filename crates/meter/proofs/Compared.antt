@@ -2,8 +2,8 @@
 use Rattle.std.proofs.Common.{◌≡◌, ℕ, ◌+◌, ◌<◌, ◌≤◌, Bool, true, false, leb, ◌⊎◌, List, Decides, sym, refl, ap, ◌∙◌, arith}
 use Rattle.std.proofs.lemmas.Bool.{le-leb, lt-leb}
 use Rattle.std.proofs.lemmas.Bool.Decides.{Decides-at, nat_tests}
-use Rattle.std.specs.Cmp.Lexicographic.{LexSome}
-use Rattle.std.specs.Ordering.{Tested, is_le}
+use Rattle.std.specs.Cmp.Lexicographic.{slice_partial_cmp}
+use Rattle.std.specs.Ordering.{is_some_and, is_le, nat_cmp, as_partial_cmp}
 use Rattle.meter.specs.Counters.{within, spread, number, Smaller}
 use Rattle.meter.specs.Kinds.{kind_of}
 use Rattle.meter.specs.Marked.{Seen, nothing, memory, past, rank_in}
@@ -11,7 +11,7 @@ use Rattle.meter.specs.MarkedLaws.{Well}
 use Rattle.meter.specs.Return.{CountsAsMemory, counts_as}
 use Rattle.meter.specs.declared.kinds.Kind.TheVariants.{None, Memory, Overflow}
 use Rattle.meter.specs.declared.return_reading.ReturnReading.{ReturnReading}
-use Rattle.meter.proofs.Order.{Compared, compared_number, order_decides}
+use Rattle.meter.proofs.Order.{compared_number, order_decides}
 use Rattle.meter.proofs.Stepped.{seen_none, seen-memory, seen-overflow}
 
 module _ {C : Type 0} (fits : C → Bool) (size : ℕ) (number : C → ℕ) (below : (c : C) → fits c ≡ true → number c < size) where
@@ -64,13 +64,13 @@ pub memory-rank : (ns : List ℕ) (x : ReturnReading) → CountsAsMemory ns x �
 memory-rank ns x m = rw (m.0, m.1) refl
 
 -- comparing the counters of two memories compares their ranks
-pub both_memories : (ns : List ℕ) (x y : ReturnReading) (r : Bool) → Memory ≡ kind_of (counts_as ns x) → Memory ≡ kind_of (counts_as ns y) → Tested (LexSome Compared x.counters y.counters) is_le r → r ≡ leb (rank_in (spread ns) (number ns) (counts_as ns x)) (rank_in (spread ns) (number ns) (counts_as ns y))
-both_memories ns x y r m k h =
+pub both_memories : (ns : List ℕ) (x y : ReturnReading) (r : Bool) → Memory ≡ kind_of (counts_as ns x) → Memory ≡ kind_of (counts_as ns y) → r ≡ is_some_and is_le (slice_partial_cmp (as_partial_cmp nat_cmp) x.counters y.counters) → r ≡ leb (rank_in (spread ns) (number ns) (counts_as ns x)) (rank_in (spread ns) (number ns) (counts_as ns y))
+both_memories ns x y r m k e =
     let a = seen-memory x.mark (within ns x.counters) x.counters m in
     let b = seen-memory y.mark (within ns y.counters) y.counters k in
     let ra = ap (rank_in (spread ns) (number ns)) a.0 in
     let rb = ap (rank_in (spread ns) (number ns)) b.0 in
-    h.2 ∙ compared_number ns x.counters y.counters h.0 a.1 b.1 h.1 ∙ one_more (number ns x.counters) (number ns y.counters) ∙ sym (λ i. leb (ra i) (rb i))
+    e ∙ compared_number ns x.counters y.counters a.1 b.1 ∙ one_more (number ns x.counters) (number ns y.counters) ∙ sym (λ i. leb (ra i) (rb i))
 
 -- two return memories are ordered by the first counter that differs
 pub ordered_by_first : (ns : List ℕ) (x y : ReturnReading) (r : Bool) → r ≡ leb (rank_in (spread ns) (number ns) (counts_as ns x)) (rank_in (spread ns) (number ns) (counts_as ns y)) → CountsAsMemory ns x → CountsAsMemory ns y → Decides r ((x.counters ≡ y.counters) ⊎ Smaller x.counters y.counters)

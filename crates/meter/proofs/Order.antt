@@ -1,9 +1,10 @@
 -- The order of counters: by their number, by the first that differs, and as arrays are compared.
-use Rattle.std.proofs.Common.{◌≡◌, ℕ, zero, suc, ◌+◌, ◌*◌, ◌<◌, ◌≤◌, true, leb, ◌⊎◌, List, [], ◌∷◌, get_or, take, IsSomeAnd, Some, None, Decides, Option, Ordering, Less, Equal, Greater, sym, refl, ap, ◌∙◌, inl, inr, ⊎_elim, mul-le-mul_right, add-mul, arith, MatchOption}
+use Rattle.std.proofs.Common.{◌≡◌, ℕ, zero, suc, ◌+◌, ◌*◌, ◌<◌, ◌≤◌, true, leb, ◌⊎◌, List, [], ◌∷◌, get_or, take, Some, Decides, Ordering, Less, Equal, Greater, sym, refl, ap, subst, ◌∙◌, inl, inr, ⊎_elim, mul-le-mul_right, add-mul, arith}
 use Rattle.std.proofs.lemmas.Bool.{cases_order, le-leb, lt-leb, leb-true}
 use Rattle.std.proofs.lemmas.Bool.Decides.{nat_tests}
-use Rattle.std.specs.Cmp.Lexicographic.{LexSome}
-use Rattle.std.specs.Ordering.{MatchOrdering, is_some_and, is_le}
+use Rattle.std.specs.Cmp.{nat_cmp_is}
+use Rattle.std.specs.Cmp.Lexicographic.{slice_partial_cmp}
+use Rattle.std.specs.Ordering.{MatchOrdering, is_some_and, is_le, nat_cmp, as_partial_cmp, partial_ordering_then}
 use Rattle.meter.specs.Counters.{within, spread, number, Smaller}
 use Rattle.meter.specs.Radix.{within-head, number-below}
 
@@ -62,25 +63,28 @@ order_decides ns cs ds w v = (
   λ h. le-leb (number ns cs) (number ns ds) (ordered_number ns cs ds w v h),
 )
 
--- how two numbers compare
-abbrev pub Compared : ℕ → ℕ → Option Ordering → Type 0
-Compared x y r = IsSomeAnd r (λ o. MatchOrdering o (x < y) (x ≡ y) (y < x))
-
--- what comparing two arrays of counters answers
-pub compared_number : (ns cs ds : List ℕ) (o : Option Ordering) → within ns cs ≡ true → within ns ds ≡ true → LexSome Compared cs ds o → is_some_and is_le o ≡ leb (number ns cs) (number ns ds)
-compared_number [] [] [] o w v h = ap (is_some_and is_le) h
-compared_number [] [] (d ∷ ds) o w v h = absurd (let z : ◌≡◌ {A = ℕ} 0 1 = cc in omega arith)
-compared_number [] (c ∷ cs) ds o w v h = absurd (let z : ◌≡◌ {A = ℕ} 0 1 = cc in omega arith)
-compared_number (n ∷ ns) [] ds o w v h = absurd (let z : ◌≡◌ {A = ℕ} 0 1 = cc in omega arith)
-compared_number (n ∷ ns) (c ∷ cs) [] o w v h = absurd (let z : ◌≡◌ {A = ℕ} 0 1 = cc in omega arith)
-compared_number (n ∷ ns) (c ∷ cs) (d ∷ ds) o w v h =
-    go h.0 h.1 h.2 (compared_number ns cs ds o (within-head n c ns cs w).1 (within-head n d ns ds v).1)
+-- comparing two arrays of counters, as `<=` does, compares their numbers
+pub compared_number : (ns cs ds : List ℕ) → within ns cs ≡ true → within ns ds ≡ true → is_some_and is_le (slice_partial_cmp (as_partial_cmp nat_cmp) cs ds) ≡ leb (number ns cs) (number ns ds)
+compared_number [] [] [] w v = refl
+compared_number [] [] (d ∷ ds) w v = absurd (let z : ◌≡◌ {A = ℕ} 0 1 = cc in omega arith)
+compared_number [] (c ∷ cs) ds w v = absurd (let z : ◌≡◌ {A = ℕ} 0 1 = cc in omega arith)
+compared_number (n ∷ ns) [] ds w v = absurd (let z : ◌≡◌ {A = ℕ} 0 1 = cc in omega arith)
+compared_number (n ∷ ns) (c ∷ cs) [] w v = absurd (let z : ◌≡◌ {A = ℕ} 0 1 = cc in omega arith)
+compared_number (n ∷ ns) (c ∷ cs) (d ∷ ds) w v =
+    let rest = compared_number ns cs ds (within-head n c ns cs w).1 (within-head n d ns ds v).1 in
+    ⊎_elim (λ e. from rest Equal e) (⊎_elim (λ lt. from rest Less lt) (λ gt. from rest Greater gt)) (cases_order c d)
   where
     shifted : c ≡ d → leb (number ns cs) (number ns ds) ≡ leb (number (n ∷ ns) (c ∷ cs)) (number (n ∷ ns) (d ∷ ds))
     shifted e = let front = ap (λ (x : ℕ). x * spread ns) e in grind (arith, nat_tests)
 
-    go : (k : Option Ordering) → Compared c d k → MatchOption k (o ≡ None) (λ j. MatchOrdering j (o ≡ Some Less) (LexSome Compared cs ds o) (o ≡ Some Greater)) → (LexSome Compared cs ds o → is_some_and is_le o ≡ leb (number ns cs) (number ns ds)) → is_some_and is_le o ≡ leb (number (n ∷ ns) (c ∷ cs)) (number (n ∷ ns) (d ∷ ds))
-    go None p q rest = absurd p
-    go (Some Less) p q rest = ap (is_some_and is_le) q ∙ (let less = first-less n c d ns cs ds w p in sym (le-leb (number (n ∷ ns) (c ∷ cs)) (number (n ∷ ns) (d ∷ ds)) (omega arith)))
-    go (Some Equal) p q rest = rest q ∙ shifted p
-    go (Some Greater) p q rest = ap (is_some_and is_le) q ∙ (let more = first-less n d c ns ds cs v p in sym (lt-leb (number (n ∷ ns) (c ∷ cs)) (number (n ∷ ns) (d ∷ ds)) more))
+    at : (is_some_and is_le (slice_partial_cmp (as_partial_cmp nat_cmp) cs ds) ≡ leb (number ns cs) (number ns ds)) → (k : Ordering) → MatchOrdering k (c < d) (c ≡ d) (d < c) → is_some_and is_le (partial_ordering_then (Some k) (slice_partial_cmp (as_partial_cmp nat_cmp) cs ds)) ≡ leb (number (n ∷ ns) (c ∷ cs)) (number (n ∷ ns) (d ∷ ds))
+    at rest Less p = let less = first-less n c d ns cs ds w p in sym (le-leb (number (n ∷ ns) (c ∷ cs)) (number (n ∷ ns) (d ∷ ds)) (omega arith))
+    at rest Equal p = rest ∙ shifted p
+    at rest Greater p = let more = first-less n d c ns ds cs v p in sym (lt-leb (number (n ∷ ns) (c ∷ cs)) (number (n ∷ ns) (d ∷ ds)) more)
+
+    from : (is_some_and is_le (slice_partial_cmp (as_partial_cmp nat_cmp) cs ds) ≡ leb (number ns cs) (number ns ds)) → (k : Ordering) → MatchOrdering k (c < d) (c ≡ d) (d < c) → is_some_and is_le (partial_ordering_then (Some (nat_cmp c d)) (slice_partial_cmp (as_partial_cmp nat_cmp) cs ds)) ≡ leb (number (n ∷ ns) (c ∷ cs)) (number (n ∷ ns) (d ∷ ds))
+    from rest k p =
+        subst
+        (λ (r : Ordering). is_some_and is_le (partial_ordering_then (Some r) (slice_partial_cmp (as_partial_cmp nat_cmp) cs ds)) ≡ leb (number (n ∷ ns) (c ∷ cs)) (number (n ∷ ns) (d ∷ ds)))
+        (nat_cmp_is c d k p)
+        (at rest k p)

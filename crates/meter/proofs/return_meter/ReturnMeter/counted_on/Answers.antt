@@ -23,7 +23,7 @@ invariant_of-result g c =
     let sums = ap total all in
     let few = limits_few b in
     let most = (g.B.Board.fair c.args.board.now).most in
-    ((c.loop-k.invariant.0, omega arith), tt)
+    record { few = (c.loop-k.invariant.0, omega arith) }
 
 pub returns : goal.returns
 returns g c =
