@@ -1,5 +1,7 @@
 // Boards: what one means, the questions that every board answers, the board that shows a table, and the
 // one of a pool of buffers.
+#![tactic(auto)]
+
 mod board;
 mod counts;
 mod limits;

@@ -1,3 +1,5 @@
+#![tactic(auto)]
+
 // Cases that boards, tables and board text are held to, each worked out by hand from the format.
 #[cfg(test)]
 mod accepted;

@@ -24,13 +24,8 @@ const PRINTED: [(&str, &str); 8] = [
 fn prints_the_board_or_the_refusal(rt: HostRuntime) -> Result<(), Fail> {
     for (text, printed) in &PRINTED {
         let done = reformat(rt.alloc(), text.as_bytes())?;
-        check_same(
-            &rt,
-            "what is printed",
-            done.text.as_slice(),
-            printed.as_bytes(),
-        )
-        .note(format_args!("{text:?}"))?;
+        let what = format!(in rt.alloc(); "what is printed for {text:?}")?;
+        check_same(&rt, what.as_str(), done.text.as_slice(), printed.as_bytes())?;
     }
     Ok(())
 }

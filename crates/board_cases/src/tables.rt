@@ -2,6 +2,7 @@
 use crate::checks::table_answer;
 use board::{Board, Record, Table, TableRefusal};
 use board_text::{TextRefusal, WriteRefusal};
+use std::fmt::Display;
 use std::process::Abort;
 use std::test::Fail;
 
@@ -66,74 +67,96 @@ fn record_of(case: (u8, u8, u16, u16)) -> Record {
 }
 
 // The slices are refused, and the table over them is one kiln position with label 0 and no moves.
-fn check_bare<'a>(rt: &impl Abort, records: &'a [Record], moves: &'a [u16]) -> Result<(), Fail> {
-    assert_eq!(rt; table_answer(records, moves), 20);
+fn check_bare<'a>(rt: &impl Abort, what: &impl Display, records: &'a [Record], moves: &'a [u16]) {
+    assert_eq!(rt; table_answer(records, moves), 20, "{what}");
     let table = Table::new(records, moves);
-    assert_eq!(rt; table.count(), 1);
-    assert_eq!(rt; (table.side(0), table.label(0), table.moves(0)), (1, 0, 0));
-    assert_eq!(rt; table.move_at(0, 0), 0);
-    assert_eq!(rt; (table.side(1), table.label(1), table.moves(1)), (0, 0, 0));
-    Ok(())
+    assert_eq!(rt; table.count(), 1, "{what}");
+    assert_eq!(rt;
+        (table.side(0), table.label(0), table.moves(0)),
+        (1, 0, 0),
+        "{what}"
+    );
+    assert_eq!(rt; table.move_at(0, 0), 0, "{what}");
+    assert_eq!(rt;
+        (table.side(1), table.label(1), table.moves(1)),
+        (0, 0, 0),
+        "{what}"
+    );
 }
 
 // The slices are not refused, and the table over them shows `count` positions.
 fn check_shown<'a>(
     rt: &impl Abort,
+    what: &impl Display,
     records: &'a [Record],
     moves: &'a [u16],
     count: u16,
-) -> Result<(), Fail> {
-    assert_eq!(rt; table_answer(records, moves), 0);
-    assert_eq!(rt; Table::new(records, moves).count(), count);
-    Ok(())
+) {
+    assert_eq!(rt; table_answer(records, moves), 0, "{what}");
+    assert_eq!(rt; Table::new(records, moves).count(), count, "{what}");
 }
 
 #[test]
-fn a_sound_table_shows_its_records(rt: HostRuntime) -> Result<(), Fail> {
+fn a_sound_table_shows_its_records(rt: HostRuntime) {
     for (case, to) in &SOUND {
         let (side, label, _, count) = *case;
         let record = record_of(*case);
-        check_shown(&rt, &[record, PLAIN], &MOVES, 2).note(format_args!("{case:?} first"))?;
+        check_shown(
+            &rt,
+            &format_args!("{case:?} first"),
+            &[record, PLAIN],
+            &MOVES,
+            2,
+        );
         let records = [PLAIN, record];
-        check_shown(&rt, &records, &MOVES, 2).note(format_args!("{case:?} last"))?;
+        check_shown(&rt, &format_args!("{case:?} last"), &records, &MOVES, 2);
         let table = Table::new(&records, &MOVES);
         let answers = (table.side(1), table.label(1), u16::from(table.moves(1)));
         assert_eq!(rt; answers, (side, label, count), "{case:?}");
         assert_eq!(rt; table.move_at(1, 0), *to, "{case:?}");
     }
-    Ok(())
 }
 
 #[test]
-fn an_unsound_table_is_refused_and_bare(rt: HostRuntime) -> Result<(), Fail> {
+fn an_unsound_table_is_refused_and_bare(rt: HostRuntime) {
     for case in &UNSOUND {
         let record = record_of(*case);
-        check_bare(&rt, &[record, PLAIN], &MOVES).note(format_args!("{case:?} first"))?;
-        check_bare(&rt, &[PLAIN, record], &MOVES).note(format_args!("{case:?} last"))?;
+        check_bare(
+            &rt,
+            &format_args!("{case:?} first"),
+            &[record, PLAIN],
+            &MOVES,
+        );
+        check_bare(
+            &rt,
+            &format_args!("{case:?} last"),
+            &[PLAIN, record],
+            &MOVES,
+        );
     }
-    Ok(())
 }
 
 #[test]
 fn a_table_has_1_to_512_records(rt: HostRuntime) -> Result<(), Fail> {
     let none: [Record; 0] = [];
-    check_bare(&rt, &none, &MOVES).note("no records")?;
-    check_shown(&rt, &[PLAIN], &MOVES, 1).note("1 record")?;
+    check_bare(&rt, &"no records", &none, &MOVES);
+    check_shown(&rt, &"1 record", &[PLAIN], &MOVES, 1);
     let most = vec![in rt.alloc(); PLAIN; 512]?;
-    check_shown(&rt, most.as_slice(), &MOVES, 512).note("512 records")?;
+    check_shown(&rt, &"512 records", most.as_slice(), &MOVES, 512);
     let more = vec![in rt.alloc(); PLAIN; 513]?;
-    check_bare(&rt, more.as_slice(), &MOVES).note("513 records")
+    check_bare(&rt, &"513 records", more.as_slice(), &MOVES);
+    Ok(())
 }
 
 #[test]
-fn a_record_has_at_most_16_moves(rt: HostRuntime) -> Result<(), Fail> {
+fn a_record_has_at_most_16_moves(rt: HostRuntime) {
     let moves = [0, 1, 2, 3, 4, 5, 6, 7, 8, 9, 10, 11, 12, 13, 14, 15, 16];
     let mut records = [PLAIN; 17];
     records[16] = record_of((1, 2, 1, 16));
-    check_shown(&rt, &records, &moves, 17).note("16 moves")?;
+    check_shown(&rt, &"16 moves", &records, &moves, 17);
     assert_eq!(rt; Table::new(&records, &moves).move_at(16, 15), 16);
     records[16] = record_of((1, 2, 0, 17));
-    check_bare(&rt, &records, &moves).note("17 moves")
+    check_bare(&rt, &"17 moves", &records, &moves);
 }
 
 #[test]

@@ -1,4 +1,6 @@
 // Board text: the reader and the writer.
+#![tactic(auto)]
+
 mod digits;
 mod fill;
 mod format;

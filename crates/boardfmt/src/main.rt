@@ -1,5 +1,7 @@
 // boardfmt: reads a board text from standard input and prints the board's one text, or the line of its
 // refusal. On standard error it says in words what was done.
+#![tactic(auto)]
+
 mod report;
 
 use board_text::reformat;

@@ -1,5 +1,7 @@
 // boardgen: prints the text of a board that is computed. `boardgen pool Q` prints the pool board with
 // Q buffers, or the line of its refusal.
+#![tactic(auto)]
+
 mod generate;
 
 use generate::{names_pool, pool_text};

@@ -145,28 +145,33 @@ fn all_held(heap: Global, buffers: u8) -> Result<Vec<Held>, AllocError> {
 
 // The pool answers at the position as the rules say.
 fn check_held(rt: &impl Abort, pool: &Pool, all: &[Held], position: u16, held: Held) {
+    let buffers = pool.buffers();
     let mut place = 0u8;
     for (number, to) in all.iter().enumerate() {
         if held.leads(*to) {
             let answer = usize::from(pool.move_at(position, place));
-            assert_eq!(rt; answer, number, "move {place} of {position}");
+            assert_eq!(rt;
+                answer,
+                number,
+                "move {place} of {position}, {buffers} buffers"
+            );
             place = place.wrapping_add(1);
         }
     }
     assert_eq!(rt;
         spot(pool, position),
         (held.side, held.label(), place),
-        "position {position}"
+        "position {position}, {buffers} buffers"
     );
-    assert_eq!(rt; pool.move_at(position, place), 0);
+    assert_eq!(rt; pool.move_at(position, place), 0, "{buffers} buffers");
 }
 
 // The pool with so many buffers is the board of the rules.
 fn check_pool(rt: &impl Abort, heap: Global, buffers: u8) -> Result<(), Fail> {
     let pool = made(buffers)?;
-    assert_eq!(rt; pool.buffers(), buffers);
+    assert_eq!(rt; pool.buffers(), buffers, "{buffers} buffers");
     let all = all_held(heap, buffers)?;
-    assert_eq!(rt; usize::from(pool.count()), all.len());
+    assert_eq!(rt; usize::from(pool.count()), all.len(), "{buffers} buffers");
     for (number, held) in all.iter().enumerate() {
         check_held(rt, &pool, all.as_slice(), u16::try_from(number)?, *held);
     }
@@ -176,7 +181,7 @@ fn check_pool(rt: &impl Abort, heap: Global, buffers: u8) -> Result<(), Fail> {
 #[test]
 fn every_pool_is_the_board_of_the_rules(rt: HostRuntime) -> Result<(), Fail> {
     for buffers in 1..=7u8 {
-        check_pool(&rt, rt.alloc(), buffers).note(format_args!("{buffers} buffers"))?;
+        check_pool(&rt, rt.alloc(), buffers)?;
     }
     Ok(())
 }

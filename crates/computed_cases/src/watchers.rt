@@ -1,6 +1,7 @@
 // Watchers, what they refuse, and boards under them, each worked out by hand.
 use board::{Board, Record, Table};
 use std::alloc::Global;
+use std::fmt::Display;
 use std::process::Abort;
 use std::test::Fail;
 use watch::{Watched, Watcher, WatcherRefusal, WatcherState};
@@ -96,25 +97,30 @@ const PLACES: [(u16, u8, u16); 16] = [
 // The board has `count` positions, and answers as the two lists say.
 fn check_answers<B: Board>(
     rt: &impl Abort,
+    what: &impl Display,
     board: &B,
     count: u16,
     positions: &[(u16, u8, u8, u8)],
     places: &[(u16, u8, u16)],
 ) {
-    assert_eq!(rt; board.count(), count);
+    assert_eq!(rt; board.count(), count, "{what}");
     for (position, side, label, moves) in positions {
         let answers = (
             board.side(*position),
             board.label(*position),
             board.moves(*position),
         );
-        assert_eq!(rt; answers, (*side, *label, *moves), "position {position}");
+        assert_eq!(rt;
+            answers,
+            (*side, *label, *moves),
+            "{what}, position {position}"
+        );
     }
     for (position, place, to) in places {
         assert_eq!(rt;
             board.move_at(*position, *place),
             *to,
-            "{position}, {place}"
+            "{what}, {position}, {place}"
         );
     }
 }
@@ -124,7 +130,14 @@ fn a_watched_board_answers_its_questions(rt: HostRuntime) -> Result<(), Fail> {
     let watcher = two_states()?;
     let table = Table::new(&RECORDS, &MOVES);
     assert_eq!(rt; number_of(Watched::check(&table, &watcher)), 0);
-    check_answers(&rt, &Watched::new(table, watcher), 6, &POSITIONS, &PLACES);
+    check_answers(
+        &rt,
+        &"two states",
+        &Watched::new(table, watcher),
+        6,
+        &POSITIONS,
+        &PLACES,
+    );
     Ok(())
 }
 
@@ -154,11 +167,23 @@ fn check_product(
     answers: &[(u16, u8, u8, u8)],
     places: &[(u16, u8, u16)],
 ) -> Result<(), Fail> {
+    let what = format_args!("{positions} × {states}");
     let watcher = falling_back(states)?;
     let records = vec![in heap; STEP; positions]?;
     let table = Table::new(records.as_slice(), &[1]);
-    assert_eq!(rt; number_of(Watched::check(&table, &watcher)), number);
-    check_answers(rt, &Watched::new(table, watcher), count, answers, places);
+    assert_eq!(rt;
+        number_of(Watched::check(&table, &watcher)),
+        number,
+        "{what}"
+    );
+    check_answers(
+        rt,
+        &what,
+        &Watched::new(table, watcher),
+        count,
+        answers,
+        places,
+    );
     Ok(())
 }
 
@@ -172,26 +197,26 @@ fn a_watched_board_has_up_to_512_positions(rt: HostRuntime) -> Result<(), Fail> 
         (512, 0, 0, 0),
     ];
     let places = [(0, 0, 3), (1, 0, 2), (510, 0, 3), (511, 0, 2), (512, 0, 0)];
-    check_product(&rt, rt.alloc(), (256, 2, 0), 512, &answers, &places).note("256 × 2")?;
+    check_product(&rt, rt.alloc(), (256, 2, 0), 512, &answers, &places)?;
     let answers = [(0, 1, 7, 1), (15, 1, 0, 1), (496, 1, 7, 1), (511, 1, 0, 1)];
     let places = [(0, 0, 31), (15, 0, 16), (496, 0, 31), (511, 0, 16)];
-    check_product(&rt, rt.alloc(), (32, 16, 0), 512, &answers, &places).note("32 × 16")?;
+    check_product(&rt, rt.alloc(), (32, 16, 0), 512, &answers, &places)?;
     let answers = [(0, 1, 7, 1), (509, 1, 0, 1), (510, 0, 0, 0)];
     let places = [(0, 0, 5), (509, 0, 3), (510, 0, 0)];
-    check_product(&rt, rt.alloc(), (170, 3, 0), 510, &answers, &places).note("170 × 3")
+    check_product(&rt, rt.alloc(), (170, 3, 0), 510, &answers, &places)
 }
 
 #[test]
 fn under_a_watcher_of_too_many_states_state_0_counts_alone(rt: HostRuntime) -> Result<(), Fail> {
     let answers = [(0, 1, 7, 1), (1, 1, 7, 1), (170, 1, 7, 1), (171, 0, 0, 0)];
     let places = [(0, 0, 1), (1, 0, 1), (170, 0, 1), (171, 0, 0)];
-    check_product(&rt, rt.alloc(), (171, 3, 25), 171, &answers, &places).note("171 × 3")?;
+    check_product(&rt, rt.alloc(), (171, 3, 25), 171, &answers, &places)?;
     let answers = [(0, 1, 7, 1), (8, 1, 7, 1), (56, 1, 7, 1), (57, 0, 0, 0)];
     let places = [(0, 0, 1), (8, 0, 1), (56, 0, 1), (57, 0, 0)];
-    check_product(&rt, rt.alloc(), (57, 9, 25), 57, &answers, &places).note("57 × 9")?;
+    check_product(&rt, rt.alloc(), (57, 9, 25), 57, &answers, &places)?;
     let answers = [(0, 1, 7, 1), (511, 1, 7, 1), (512, 0, 0, 0)];
     let places = [(0, 0, 1), (511, 0, 1), (512, 0, 0)];
-    check_product(&rt, rt.alloc(), (512, 16, 25), 512, &answers, &places).note("512 × 16")
+    check_product(&rt, rt.alloc(), (512, 16, 25), 512, &answers, &places)
 }
 
 // A watcher of so many blank states.
@@ -335,6 +360,7 @@ fn a_board_under_a_spoilt_watcher_keeps_the_limits(rt: HostRuntime) {
     let answers = [(0, 0, 15, 2), (47, 0, 15, 1), (48, 0, 0, 0)];
     check_answers(
         &rt,
+        &"200 states",
         &board,
         48,
         &answers,
@@ -342,7 +368,14 @@ fn a_board_under_a_spoilt_watcher_keeps_the_limits(rt: HostRuntime) {
     );
     let board = Watched::new(Table::new(&RECORDS, &MOVES), spoilt(0));
     let answers = [(0, 0, 15, 2), (2, 0, 15, 1), (3, 0, 0, 0)];
-    check_answers(&rt, &board, 3, &answers, &[(0, 0, 1), (2, 0, 2), (3, 0, 0)]);
+    check_answers(
+        &rt,
+        &"no states",
+        &board,
+        3,
+        &answers,
+        &[(0, 0, 1), (2, 0, 2), (3, 0, 0)],
+    );
 }
 
 #[test]

@@ -1,5 +1,5 @@
 -- The actions of a deadline meter: their numbers, the one that a label has, and how one is set.
-use Rattle.std.specs.Prelude.{ℕ, Bool, cond, ◌&&◌, List, set, Some, None, Option, ◌==◌, nat_le, slice_index_or, slice_set}
+use Rattle.std.specs.Prelude.{ℕ, Bool, cond, ◌&&◌, List, Some, None, Option, ◌==◌, nat_le, slice_index_or, slice_set}
 use Rattle.meter.specs.declared.actions.Action.{Action}
 use Rattle.meter.specs.declared.actions.Action.TheVariants.{Keep, Add, Back}
 

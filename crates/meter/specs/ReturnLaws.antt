@@ -1,11 +1,11 @@
 -- Why the return meter keeps the laws: the witness that its `impl` gives. Nothing here has to be read to understand a
 -- contract.
-use Rattle.std.specs.Prelude.{◌≡◌, ℕ, ◌+◌, ◌-◌, ◌*◌, ◌%◌, ◌<◌, ◌≤◌, Bool, true, false, cond, List, length, drop, replicate, ◌==◌, refl}
+use Rattle.std.specs.Prelude.{◌≡◌, ℕ, ◌+◌, ◌*◌, ◌%◌, ◌<◌, ◌≤◌, Bool, true, false, cond, List, length, drop, replicate, ◌==◌, refl}
 use Rattle.std.proofs.Common.{⊎_elim, add-mul, mul-le-mul_right}
 use Rattle.std.proofs.Math.Path.{subst}
 use native.Mathlib.Omega.{arith}
 use Rattle.std.proofs.lemmas.Bool.{cases_lt}
-use Rattle.meter.specs.Counters.{within, total, spread, number, cleared, filled, places_to, last_place, has_room, has_some, carried, borrowed, raised, lowered}
+use Rattle.meter.specs.Counters.{within, total, spread, number, cleared, filled, places_to, last_place, has_room, has_some, carried, borrowed}
 use Rattle.meter.specs.CounterSteps.{before, weight, rank_of, cleared-number, filled-number, carried-rank, carried-well, borrowed-rank, borrowed-well}
 use Rattle.meter.specs.Few.{spread-few}
 use Rattle.meter.specs.Gauge.{Laws, ExactlyWhen}

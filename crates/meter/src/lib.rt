@@ -1,4 +1,6 @@
 // Meters: what one means and its laws, and the meters that count returns and deadlines.
+#![tactic(auto)]
+
 mod actions;
 mod counters;
 mod deadline_meter;

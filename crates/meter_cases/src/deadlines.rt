@@ -3,8 +3,8 @@
 use crate::checks::{check_adjoint, check_step};
 use board::HIGHEST_LABEL;
 use meter::{Action, ActionRefusal, DeadlineMeter, DeadlineReading, Meter};
+use std::fmt::Display;
 use std::process::Abort;
-use std::test::Fail;
 
 // A reading, by its mark and number.
 type Pair = (u8, u16);
@@ -40,15 +40,14 @@ fn meter_with(limit: u16) -> DeadlineMeter {
 // From, the label, where up leads, and where down leads.
 type Step = (Pair, u8, Pair, Pair);
 
-fn check_steps(rt: &impl Abort, limit: u16, steps: &[Step]) -> Result<(), Fail> {
+fn check_steps(rt: &impl Abort, limit: u16, steps: &[Step]) {
     let meter = meter_with(limit);
     for step in steps {
         let (from, label, raised, lowered) = *step;
         let x = reading_of(from);
         let (up, down) = (reading_of(raised), reading_of(lowered));
-        check_step(rt, &meter, x, label, up, down).note(format_args!("{step:?}"))?;
+        check_step(rt, &format_args!("{step:?}"), &meter, x, label, up, down);
     }
-    Ok(())
 }
 
 const STEPS_AT_0: [Step; 9] = [
@@ -123,23 +122,23 @@ const SPOILT_STEPS: [Step; 18] = [
 ];
 
 #[test]
-fn steps_at_limit_0(rt: HostRuntime) -> Result<(), Fail> {
-    check_steps(&rt, 0, &STEPS_AT_0)
+fn steps_at_limit_0(rt: HostRuntime) {
+    check_steps(&rt, 0, &STEPS_AT_0);
 }
 
 #[test]
-fn steps_at_limit_3(rt: HostRuntime) -> Result<(), Fail> {
-    check_steps(&rt, 3, &STEPS_AT_3)
+fn steps_at_limit_3(rt: HostRuntime) {
+    check_steps(&rt, 3, &STEPS_AT_3);
 }
 
 #[test]
-fn steps_at_limit_65535(rt: HostRuntime) -> Result<(), Fail> {
-    check_steps(&rt, 65535, &STEPS_AT_65535)
+fn steps_at_limit_65535(rt: HostRuntime) {
+    check_steps(&rt, 65535, &STEPS_AT_65535);
 }
 
 #[test]
-fn steps_of_spoilt_readings(rt: HostRuntime) -> Result<(), Fail> {
-    check_steps(&rt, 3, &SPOILT_STEPS)
+fn steps_of_spoilt_readings(rt: HostRuntime) {
+    check_steps(&rt, 3, &SPOILT_STEPS);
 }
 
 // Every kind of reading at limit 3, sound and spoilt, with its rank.
@@ -175,20 +174,19 @@ fn readings_are_ordered_by_rank(rt: HostRuntime) {
     }
 }
 
-fn check_kept_from(rt: &impl Abort, meter: &DeadlineMeter, label: u8) -> Result<(), Fail> {
+fn check_kept_from(rt: &impl Abort, meter: &DeadlineMeter, label: u8) {
     for (pair, _) in &RANKED {
         let x = reading_of(*pair);
-        check_step(rt, meter, x, label, x, x).note(format_args!("{pair:?}"))?;
+        check_step(rt, &format_args!("{pair:?}"), meter, x, label, x, x);
     }
-    Ok(())
 }
 
 #[test]
-fn labels_above_15_keep_every_reading_as_it_is(rt: HostRuntime) -> Result<(), Fail> {
+fn labels_above_15_keep_every_reading_as_it_is(rt: HostRuntime) {
     let meter = meter_with(3);
-    check_kept_from(&rt, &meter, 16)?;
-    check_kept_from(&rt, &meter, 23)?;
-    check_kept_from(&rt, &meter, 255)
+    check_kept_from(&rt, &meter, 16);
+    check_kept_from(&rt, &meter, 23);
+    check_kept_from(&rt, &meter, 255);
 }
 
 // None, least, greatest and overflow.
@@ -209,36 +207,32 @@ fn the_ends_of_the_readings(rt: HostRuntime) {
     check_ends(&rt, 65535);
 }
 
-fn check_adjoint_from(rt: &impl Abort, meter: &DeadlineMeter, x: Pair) -> Result<(), Fail> {
+fn check_adjoint_from(rt: &impl Abort, meter: &DeadlineMeter, x: Pair) {
     for (y, _) in &RANKED {
-        check_adjoint(rt, meter, reading_of(x), reading_of(*y)).note(format_args!(
-            "{x:?} and {y:?}"
-        ))?;
+        let what = format_args!("{x:?} and {y:?}");
+        check_adjoint(rt, &what, meter, reading_of(x), reading_of(*y));
     }
-    Ok(())
 }
 
 #[test]
-fn down_is_the_adjoint_of_up(rt: HostRuntime) -> Result<(), Fail> {
+fn down_is_the_adjoint_of_up(rt: HostRuntime) {
     let small = meter_with(0);
     let meter = meter_with(3);
     for (x, _) in &RANKED {
-        check_adjoint_from(&rt, &small, *x)?;
-        check_adjoint_from(&rt, &meter, *x)?;
+        check_adjoint_from(&rt, &small, *x);
+        check_adjoint_from(&rt, &meter, *x);
     }
-    Ok(())
 }
 
 // The two meters answer alike.
-fn check_alike(rt: &impl Abort, a: &DeadlineMeter, b: &DeadlineMeter) -> Result<(), Fail> {
-    assert_eq!(rt; a.limit(), b.limit());
+fn check_alike(rt: &impl Abort, what: &impl Display, a: &DeadlineMeter, b: &DeadlineMeter) {
+    assert_eq!(rt; a.limit(), b.limit(), "{what}");
     for label in 0..18u8 {
-        assert_eq!(rt; a.action(label), b.action(label), "label {label}");
+        assert_eq!(rt; a.action(label), b.action(label), "{what}, label {label}");
         let x = reading_of((1, 2));
-        assert_eq!(rt; a.up(x, label), b.up(x, label), "label {label}");
-        assert_eq!(rt; a.down(x, label), b.down(x, label), "label {label}");
+        assert_eq!(rt; a.up(x, label), b.up(x, label), "{what}, label {label}");
+        assert_eq!(rt; a.down(x, label), b.down(x, label), "{what}, label {label}");
     }
-    Ok(())
 }
 
 #[test]
@@ -280,14 +274,13 @@ const REFUSED: [(u8, u8); 8] = [
 ];
 
 #[test]
-fn a_refusal_leaves_the_meter_as_it_was(rt: HostRuntime) -> Result<(), Fail> {
+fn a_refusal_leaves_the_meter_as_it_was(rt: HostRuntime) {
     let before = meter_with(3);
     for case in &REFUSED {
         let (label, action) = *case;
         let mut meter = before;
         assert_eq!(rt; set_answer(&mut meter, label, action), 22, "{case:?}");
-        check_alike(&rt, &before, &meter).note(format_args!("{case:?}"))?;
+        check_alike(&rt, &format_args!("{case:?}"), &before, &meter);
     }
     assert_eq!(rt; ActionRefusal::BadAction.number(), 22);
-    Ok(())
 }

@@ -1,3 +1,5 @@
+#![tactic(auto)]
+
 // Cases that meters are held to, each worked out by hand.
 #[cfg(test)]
 mod checks;

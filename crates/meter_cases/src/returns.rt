@@ -3,6 +3,7 @@
 use crate::checks::{check_adjoint, check_step};
 use board::{Pool, Record, Table};
 use meter::{COUNTERS, Meter, ReturnMeter, ReturnReading};
+use std::fmt::Display;
 use std::process::Abort;
 use std::test::Fail;
 use watch::{Watched, Watcher};
@@ -113,10 +114,18 @@ fn limits_are_counted_on_computed_boards(rt: HostRuntime) -> Result<(), Fail> {
 
 // There is no label 16, so the board is bare: one position, with label 0.
 #[test]
-fn a_bare_board_has_one_memory(rt: HostRuntime) -> Result<(), Fail> {
+fn a_bare_board_has_one_memory(rt: HostRuntime) {
     let bare = meter_on(&[1, 16, 3]);
     check_counted(&rt, &bare, ZEROS, 1);
-    check_step(&rt, &bare, bare.least(), 1, bare.overflow(), bare.none())
+    check_step(
+        &rt,
+        &"bare",
+        &bare,
+        bare.least(),
+        1,
+        bare.overflow(),
+        bare.none(),
+    );
 }
 
 // The meter counted on a board of 512 positions, 64 with each odd label.
@@ -186,15 +195,14 @@ const SMALL_STEPS: [Step; 31] = [
 ];
 
 #[test]
-fn steps_at_the_limits_1_and_2(rt: HostRuntime) -> Result<(), Fail> {
+fn steps_at_the_limits_1_and_2(rt: HostRuntime) {
     let meter = meter_on(&SMALL);
     for step in &SMALL_STEPS {
         let (from, label, raised, lowered) = *step;
         let x = reading_of(from);
         let (up, down) = (reading_of(raised), reading_of(lowered));
-        check_step(&rt, &meter, x, label, up, down).note(format_args!("{step:?}"))?;
+        check_step(&rt, &format_args!("{step:?}"), &meter, x, label, up, down);
     }
-    Ok(())
 }
 
 // From a memory of the mixed board: the label, where up leads, and where down leads.
@@ -217,21 +225,21 @@ const MIXED_STEPS: [(u8, Counters, Counters); 13] = [
 ];
 
 #[test]
-fn steps_on_the_mixed_board(rt: HostRuntime) -> Result<(), Fail> {
+fn steps_on_the_mixed_board(rt: HostRuntime) {
     let meter = meter_on(&MIXED);
     let x = written(1, MIXED_FROM);
     assert_eq!(rt; meter.rank(x), 27);
     for (label, raised, lowered) in &MIXED_STEPS {
         check_step(
             &rt,
+            &"mixed",
             &meter,
             x,
             *label,
             written(1, *raised),
             written(1, *lowered),
-        )?;
+        );
     }
-    Ok(())
 }
 
 // Up by 15 leads from each memory to the next, the last to overflow, and down by 15 to the one before.
@@ -277,28 +285,27 @@ const RANKED: [(Triple, u64); 19] = [
 ];
 
 // The rank of x, its order to every reading, and that down is the adjoint of up between them.
-fn check_from(
-    rt: &impl Abort,
-    meter: &ReturnMeter,
-    x: ReturnReading,
-    rank: u64,
-) -> Result<(), Fail> {
-    assert_eq!(rt; meter.rank(x), rank);
+fn check_from(rt: &impl Abort, meter: &ReturnMeter, from: Triple, rank: u64) {
+    let x = reading_of(from);
+    assert_eq!(rt; meter.rank(x), rank, "{from:?}");
     for (to, other) in &RANKED {
         let y = reading_of(*to);
-        assert_eq!(rt; meter.at_most(x, y), rank <= *other, "to {to:?}");
-        check_adjoint(rt, meter, x, y).note(format_args!("to {to:?}"))?;
+        assert_eq!(rt;
+            meter.at_most(x, y),
+            rank <= *other,
+            "from {from:?} to {to:?}"
+        );
+        let what = format_args!("from {from:?} to {to:?}");
+        check_adjoint(rt, &what, meter, x, y);
     }
-    Ok(())
 }
 
 #[test]
-fn readings_are_ordered_by_rank_and_down_is_the_adjoint_of_up(rt: HostRuntime) -> Result<(), Fail> {
+fn readings_are_ordered_by_rank_and_down_is_the_adjoint_of_up(rt: HostRuntime) {
     let meter = meter_on(&SMALL);
     for (from, rank) in &RANKED {
-        check_from(&rt, &meter, reading_of(*from), *rank).note(format_args!("from {from:?}"))?;
+        check_from(&rt, &meter, *from, *rank);
     }
-    Ok(())
 }
 
 // Readings that count as none or overflow, and where every label up to 15 leads them, up and down.
@@ -323,28 +330,27 @@ const STAYING: [(Triple, Triple); 13] = [
 
 fn check_staying(
     rt: &impl Abort,
+    what: &impl Display,
     meter: &ReturnMeter,
     x: ReturnReading,
     end: ReturnReading,
-) -> Result<(), Fail> {
+) {
     for label in 0..16u8 {
-        check_step(rt, meter, x, label, end, end)?;
+        check_step(rt, what, meter, x, label, end, end);
     }
-    Ok(())
 }
 
 #[test]
-fn none_and_overflow_stay_and_are_written_with_counters_0(rt: HostRuntime) -> Result<(), Fail> {
+fn none_and_overflow_stay_and_are_written_with_counters_0(rt: HostRuntime) {
     let meter = meter_on(&SMALL);
     for (from, to) in &STAYING {
         let x = reading_of(*from);
-        check_staying(&rt, &meter, x, reading_of(*to)).note(format_args!("{from:?}"))?;
+        check_staying(&rt, &format_args!("{from:?}"), &meter, x, reading_of(*to));
     }
-    Ok(())
 }
 
 #[test]
-fn each_counter_above_its_limit_spoils_a_memory(rt: HostRuntime) -> Result<(), Fail> {
+fn each_counter_above_its_limit_spoils_a_memory(rt: HostRuntime) {
     let meter = meter_on(&MIXED);
     for place in 0..COUNTERS {
         // 4 is above every limit.
@@ -352,23 +358,22 @@ fn each_counter_above_its_limit_spoils_a_memory(rt: HostRuntime) -> Result<(), F
         counters[place] = 4;
         let x = written(1, counters);
         assert!(rt; !meter.at_most(meter.least(), x));
-        check_staying(&rt, &meter, x, meter.none()).note(format_args!("place {place}"))?;
+        let what = format_args!("place {place}");
+        check_staying(&rt, &what, &meter, x, meter.none());
     }
-    Ok(())
 }
 
-fn check_kept_by(rt: &impl Abort, meter: &ReturnMeter, label: u8) -> Result<(), Fail> {
+fn check_kept_by(rt: &impl Abort, meter: &ReturnMeter, label: u8) {
     for (triple, _) in &RANKED {
         let x = reading_of(*triple);
-        check_step(rt, meter, x, label, x, x).note(format_args!("{triple:?}"))?;
+        check_step(rt, &format_args!("{triple:?}"), meter, x, label, x, x);
     }
-    Ok(())
 }
 
 #[test]
-fn labels_above_15_keep_every_reading_as_it_is(rt: HostRuntime) -> Result<(), Fail> {
+fn labels_above_15_keep_every_reading_as_it_is(rt: HostRuntime) {
     let meter = meter_on(&SMALL);
-    check_kept_by(&rt, &meter, 16)?;
-    check_kept_by(&rt, &meter, 17)?;
-    check_kept_by(&rt, &meter, 255)
+    check_kept_by(&rt, &meter, 16);
+    check_kept_by(&rt, &meter, 17);
+    check_kept_by(&rt, &meter, 255);
 }

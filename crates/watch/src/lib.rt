@@ -1,4 +1,6 @@
 // Watchers, and the board that any board is under one.
+#![tactic(auto)]
+
 mod refusals;
 mod watched;
 mod watcher;
