@@ -1,17 +1,16 @@
 -- The tests on moves and on tables decide what they are meant to.
-use Rattle.std.proofs.Common.{◌≡◌, ℕ, suc, ◌+◌, ◌<◌, ◌≤◌, true, ◌&&◌, eqb, ltb, leb, List, [], ◌∷◌, map, length, get_or, Decides, refl, subst, ⊎_elim, add-one, arith}
+use Rattle.std.proofs.Common.{◌≡◌, ℕ, suc, ◌+◌, ◌<◌, ◌≤◌, Bool, true, false, ◌&&◌, eqb, ltb, leb, List, [], ◌∷◌, map, length, get_or, Decides, refl, sym, ◌∙◌, subst, ⊎_elim, add-one, arith}
 use Rattle.std.proofs.lemmas.List.{get_or-map, length-map}
-use Rattle.std.proofs.lemmas.Bool.{and_from, or_left, or_right, lt-ltb, le-leb, eq-eqb, cases_lt}
+use Rattle.std.proofs.lemmas.List.Elements.{All-from_get_or}
+use Rattle.std.proofs.lemmas.List.Sums.{AllPass-from_list_all, list_all-from_AllPass}
+use Rattle.std.proofs.lemmas.Bool.{and_from, or_left, or_right, lt-ltb, le-leb, eq-eqb, ltb-true, ltb-false, cases_lt, cases_Bool, false≢true}
+use Rattle.std.specs.List.{list_all, IsAllAdjacentAnswer}
 use Rattle.board.specs.Spot.{Spot, blank}
 use Rattle.board.specs.Fair.{FairSpot}
-use Rattle.board.specs.Fairness.{tested_at, sound_parts, shown-fair, as_many}
+use Rattle.board.specs.Fairness.{rising-within, rising-ascends, tested_at, sound_parts, shown-fair, as_many}
 use Rattle.board.specs.Rising.{rising}
-use Rattle.board.specs.Table.{Sound, blank_record, spot_of, sound_record, sound_records, sound_table}
+use Rattle.board.specs.Table.{Sound, blank_record, spot_of, sound_record, sound_table}
 use Rattle.board.specs.declared.records.Record.{Record}
-
--- a move within the bounds is passed, and the next has to be above it
-pub rising-on : (n low m : ℕ) (ms : List ℕ) → low ≤ m → m < n → rising n low (m ∷ ms) ≡ rising n (m + 1) ms
-rising-on n low m ms from below = rw (le-leb low m from, lt-ltb m n below) refl
 
 -- a list that stays below n and ascends passes the test
 pub rising-from : (n low : ℕ) (ms : List ℕ) → (0 < length ms → low ≤ get_or ms 0 0) → ((i : ℕ) → i < length ms → get_or ms i 0 < n) → ((i : ℕ) → i + 1 < length ms → get_or ms i 0 < get_or ms (i + 1) 0) → rising n low ms ≡ true
@@ -28,6 +27,28 @@ rising-from n low (m ∷ ms) first within up =
 pub fair-rises : (n : ℕ) (s : Spot) → FairSpot n s → rising n 0 s.moves ≡ true
 fair-rises n s f = rising-from n 0 s.moves (λ _. omega arith) f.within f.ascending
 
+-- and a list that passes stays below n
+rising-all : (n : ℕ) (ms : List ℕ) → rising n 0 ms ≡ true → list_all (λ m. ltb m n) ms ≡ true
+rising-all n ms h =
+    list_all-from_AllPass (λ m. ltb m n) ms (All-from_get_or (λ m. ltb m n ≡ true) ms 0 (λ i lt. lt-ltb (get_or ms i 0) n (rising-within n 0 ms h i lt).1))
+
+-- the test is whether all moves are below n and each is below the next
+pub rising-sorted : (n : ℕ) (ms : List ℕ) (r : Bool) → true ≡ list_all (λ m. ltb m n) ms → IsAllAdjacentAnswer (λ x y b. b ≡ ltb x y) ms r → r ≡ rising n 0 ms
+rising-sorted n ms true all adjacent =
+    sym (rising-from n 0 ms (λ _. omega arith) (λ i lt. ltb-true (get_or ms i 0) n (AllPass-from_list_all (λ m. ltb m n) ms (sym all) i 0 lt)) (λ i lt. ltb-true (get_or ms i 0) (get_or ms (i + 1) 0) (sym (adjacent i 0 lt))))
+rising-sorted n ms false all broken =
+    ⊎_elim
+    (λ (h : rising n 0 ms ≡ true). let up = rising-ascends n 0 ms h broken.0 broken.1 in let down = ltb-false _ _ (sym (broken.2 0)) in absurd (omega arith))
+    (λ (h : rising n 0 ms ≡ false). sym h)
+    (cases_Bool (rising n 0 ms))
+
+pub rising-not_all : (n : ℕ) (ms : List ℕ) → false ≡ list_all (λ m. ltb m n) ms → false ≡ rising n 0 ms
+rising-not_all n ms none =
+    ⊎_elim
+    (λ (h : rising n 0 ms ≡ true). absurd (false≢true (none ∙ rising-all n ms h)))
+    (λ (h : rising n 0 ms ≡ false). sym h)
+    (cases_Bool (rising n 0 ms))
+
 record_passes : (n : ℕ) (ms : List ℕ) (r : Record) → FairSpot n (spot_of ms r) → (0 < r.count → r.first + r.count ≤ length ms) → sound_record n ms r ≡ true
 record_passes n ms r f inside =
     let many = as_many ms r inside in
@@ -42,11 +63,6 @@ record_passes n ms r f inside =
     (cases_lt 0 r.count))
     (fair-rises n (spot_of ms r) f))))
 
-records-pass : (n : ℕ) (ms : List ℕ) (rs : List Record) → ((v : ℕ) → v < length rs → sound_record n ms (get_or rs v blank_record) ≡ true) → sound_records n ms rs ≡ true
-records-pass n ms [] each = refl
-records-pass n ms (r ∷ rs) each =
-    and_from (sound_record n ms r) (sound_records n ms rs) (each 0 (omega arith)) (records-pass n ms rs (λ v lt. each (suc v) (omega arith)))
-
 sound_passes : (rs : List Record) (ms : List ℕ) → Sound rs ms → sound_table rs ms ≡ true
 sound_passes rs ms s =
     let long : length (map (spot_of ms) rs) ≡ length rs = length-map rs (spot_of ms) in
@@ -54,11 +70,11 @@ sound_passes rs ms s =
     let most = s.fair.most in
     and_from (leb 1 (length rs)) _ (le-leb 1 (length rs) (omega arith))
     (and_from (leb (length rs) 512) _ (le-leb (length rs) 512 (omega arith))
-    (records-pass (length rs) ms rs (λ v lt.
+    (list_all-from_AllPass (sound_record (length rs) ms) rs (All-from_get_or (λ r. sound_record (length rs) ms r ≡ true) rs blank_record (λ v lt.
     record_passes (length rs) ms (get_or rs v blank_record)
     (subst (λ (n : ℕ). FairSpot n (spot_of ms (get_or rs v blank_record))) long
     (subst (FairSpot (length (map (spot_of ms) rs))) (get_or-map (spot_of ms) rs v blank_record blank lt) (s.fair.each v (omega arith))))
-    (s.inside v lt))))
+    (s.inside v lt)))))
 
 -- the test on a table decides whether it is sound
 pub decides_sound : (rs : List Record) (ms : List ℕ) → Decides (sound_table rs ms) (Sound rs ms)

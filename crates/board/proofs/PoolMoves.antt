@@ -1,32 +1,36 @@
 -- The moves of a pool board by their places. That they are those of the meaning is computed for every
 -- position of every pool.
-use Rattle.std.proofs.Common.{◌≡◌, ℕ, ◌+◌, ◌-◌, ◌*◌, ◌<◌, ◌≤◌, Bool, true, false, cond, ◌&&◌, eqb, ltb, leb, List, [], ◌∷◌, map, length, get_or, sym, refl, ap, ◌∙◌, subst, arith}
+use Rattle.std.proofs.Common.{◌≡◌, ℕ, ◌+◌, ◌-◌, ◌*◌, ◌<◌, ◌≤◌, Bool, true, false, cond, ◌&&◌, eqb, leb, List, [], ◌∷◌, map, length, get_or, sym, refl, ap, ◌∙◌, subst, arith}
 use Rattle.std.specs.List.{range_with_len}
 use Rattle.std.proofs.lemmas.List.FromFn.{get_or-map-range_with_len, length-map-range_with_len}
-use Rattle.std.proofs.lemmas.Bool.{and_parts, eqb-true, leb-true, ltb-true, eq-eqb, ne_eqb, cond-true, cond-false, false≢true}
+use Rattle.std.proofs.lemmas.Bool.{and_parts, eqb-true, leb-true, eq-eqb, ne_eqb, cond-true, cond-false, false≢true}
 use Rattle.board.specs.FairTest.{all_below, passes_below}
 use Rattle.board.specs.Pool.{InPool, clash, idle, pool_number, pool_moves}
+use Rattle.board.specs.Side.{side_number, side_numbered}
+use Rattle.board.proofs.Sides.{side-below, side-back}
 use Rattle.board.specs.declared.pool_state.PoolState.{PoolState}
+use Rattle.board.specs.declared.side.Side.{Side}
+use Rattle.board.specs.declared.side.Side.TheVariants.{Controller, Kiln}
 
 -- how many moves there are
 abbrev pub choices : ℕ → PoolState → ℕ
-choices q p = cond (clash p) 1 (cond (eqb p.side 0) (1 + idle p * q) (3 - idle p))
+choices q p = cond (clash p) 1 (cond (eqb (side_number p.side) 0) (1 + idle p * q) (3 - idle p))
 
 -- where the controller's move at place i leads
 abbrev pub after_handing : ℕ → PoolState → ℕ → PoolState
 after_handing q p i = record {
   first = cond (eqb p.first 0) (cond (eqb p.second 0) (i - q) i) p.first;
   second = cond (eqb p.second 0) (cond (eqb p.first 0) (cond (leb i q) i 0) i) p.second;
-  side = 1;
+  side = Kiln;
 }
 
 -- where the kiln's leads
 abbrev pub after_giving : PoolState → ℕ → PoolState
-after_giving p i = record { first = cond (eqb i 0) 0 p.first; second = cond (eqb i (cond (eqb p.first 0) 0 1)) 0 p.second; side = 0 }
+after_giving p i = record { first = cond (eqb i 0) 0 p.first; second = cond (eqb i (cond (eqb p.first 0) 0 1)) 0 p.second; side = Controller }
 
 -- where any move leads
 abbrev pub after : ℕ → PoolState → ℕ → PoolState
-after q p i = cond (clash p) p (cond (eqb p.side 0) (after_handing q p i) (after_giving p i))
+after q p i = cond (clash p) p (cond (eqb (side_number p.side) 0) (after_handing q p i) (after_giving p i))
 
 same : List ℕ → List ℕ → Bool
 same [] [] = true
@@ -49,10 +53,10 @@ same_true (x ∷ xs) (y ∷ ys) h =
 abbrev agrees : ℕ → PoolState → Bool
 agrees q p =
     same (pool_moves q p) (map (λ i. pool_number q (after q p i)) (range_with_len 0 (choices q p)))
-    && all_below (choices q p) (λ i. leb (after q p i).first q && (leb (after q p i).second q && ltb (after q p i).side 2))
+    && all_below (choices q p) (λ i. leb (after q p i).first q && leb (after q p i).second q)
 
 abbrev agrees_in : ℕ → Bool
-agrees_in q = all_below (q + 1) (λ f. all_below (q + 1) (λ s. all_below 2 (λ t. agrees q (record { first = f; second = s; side = t }))))
+agrees_in q = all_below (q + 1) (λ f. all_below (q + 1) (λ s. all_below 2 (λ t. agrees q (record { first = f; second = s; side = side_numbered t }))))
 
 all_agree : all_below 8 agrees_in ≡ true
 unfolding same
@@ -63,7 +67,8 @@ agrees_at q p most inside =
     let in-pool = passes_below 8 agrees_in all_agree q (omega arith) in
     let at_first = passes_below (q + 1) _ in-pool p.first (omega arith) in
     let at_second = passes_below (q + 1) _ at_first p.second (omega arith) in
-    passes_below 2 (λ t. agrees q (record { first = p.first; second = p.second; side = t })) at_second p.side (omega arith)
+    let at_side = passes_below 2 (λ t. agrees q (record { first = p.first; second = p.second; side = side_numbered t })) at_second (side_number p.side) (side-below p.side) in
+    subst (λ (t : Side). agrees q (record { first = p.first; second = p.second; side = t }) ≡ true) (side-back p.side) at_side
 
 module _ (q : ℕ) (p : PoolState) (most : q ≤ 7) (inside : InPool q p) where
   moves-are : pool_moves q p ≡ map (λ i. pool_number q (after q p i)) (range_with_len 0 (choices q p))
@@ -77,10 +82,9 @@ module _ (q : ℕ) (p : PoolState) (most : q ≤ 7) (inside : InPool q p) where
   pub after-inside : (i : ℕ) → i < length (pool_moves q p) → InPool q (after q p i)
   after-inside i lt =
       let many = choices-are in
-      let h = passes_below (choices q p) (λ k. leb (after q p k).first q && (leb (after q p k).second q && ltb (after q p k).side 2)) (and_parts _ _ (agrees_at q p most inside)).1 i (omega arith) in
+      let h = passes_below (choices q p) (λ k. leb (after q p k).first q && leb (after q p k).second q) (and_parts _ _ (agrees_at q p most inside)).1 i (omega arith) in
       let a = and_parts _ _ h in
-      let b = and_parts _ _ a.1 in
-      (leb-true (after q p i).first q a.0, leb-true (after q p i).second q b.0, ltb-true (after q p i).side 2 b.1)
+      (leb-true (after q p i).first q a.0, leb-true (after q p i).second q a.1)
 
   pub after-number : (i : ℕ) → i < length (pool_moves q p) → pool_number q (after q p i) ≡ get_or (pool_moves q p) i 0
   after-number i lt =
@@ -93,15 +97,15 @@ module _ (q : ℕ) (p : PoolState) (most : q ≤ 7) (inside : InPool q p) where
   pub choices-clash : true ≡ clash p → 1 ≡ length (pool_moves q p)
   choices-clash clashes = sym (choices-are q p most inside ∙ cond-true (clash p) 1 _ (sym clashes))
 
-  pub choices-handing : false ≡ clash p → p.side ≡ 0 → (n : ℕ) → n ≡ idle p → 1 + n * q ≡ length (pool_moves q p)
+  pub choices-handing : false ≡ clash p → p.side ≡ Controller → (n : ℕ) → n ≡ idle p → 1 + n * q ≡ length (pool_moves q p)
   choices-handing apart turn n e =
       ap (λ (k : ℕ). 1 + k * q) e
-      ∙ sym (choices-are q p most inside ∙ cond-false (clash p) 1 _ (sym apart) ∙ cond-true (eqb p.side 0) (1 + idle p * q) (3 - idle p) (eq-eqb p.side 0 turn))
+      ∙ sym (choices-are q p most inside ∙ cond-false (clash p) 1 _ (sym apart) ∙ cond-true (eqb (side_number p.side) 0) (1 + idle p * q) (3 - idle p) (eq-eqb (side_number p.side) 0 (ap side_number turn)))
 
-  pub choices-giving : false ≡ clash p → (p.side ≡ 0 → ⊥) → (n : ℕ) → n ≡ idle p → 3 - n ≡ length (pool_moves q p)
+  pub choices-giving : false ≡ clash p → p.side ≡ Kiln → (n : ℕ) → n ≡ idle p → 3 - n ≡ length (pool_moves q p)
   choices-giving apart turn n e =
       ap (λ (k : ℕ). 3 - k) e
-      ∙ sym (choices-are q p most inside ∙ cond-false (clash p) 1 _ (sym apart) ∙ cond-false (eqb p.side 0) (1 + idle p * q) (3 - idle p) (ne_eqb p.side 0 turn))
+      ∙ sym (choices-are q p most inside ∙ cond-false (clash p) 1 _ (sym apart) ∙ cond-false (eqb (side_number p.side) 0) (1 + idle p * q) (3 - idle p) (ne_eqb (side_number p.side) 0 (λ e. let k = ap side_number turn in omega arith)))
 
 same-state : (p r : PoolState) → p.first ≡ r.first → p.second ≡ r.second → p.side ≡ r.side → p ≡ r
 same-state p r a b c = rw (a, b, c) refl
@@ -116,16 +120,16 @@ module _ (q : ℕ) (p : PoolState) (most : q ≤ 7) (inside : InPool q p) (i : �
   lands r e = subst (Lands q p i) e (record { inside = after-inside q p most inside i there; number = after-number q p most inside i there })
 
   -- the controller's move, and the kiln's
-  pub lands-handing : clash p ≡ false → p.side ≡ 0 → (r : PoolState) → (after_handing q p i).first ≡ r.first → (after_handing q p i).second ≡ r.second → 1 ≡ r.side → Lands q p i r
+  pub lands-handing : clash p ≡ false → p.side ≡ Controller → (r : PoolState) → (after_handing q p i).first ≡ r.first → (after_handing q p i).second ≡ r.second → Kiln ≡ r.side → Lands q p i r
   lands-handing apart turn r first second side =
       lands r
       (cond-false (clash p) p _ apart
-      ∙ cond-true (eqb p.side 0) (after_handing q p i) (after_giving p i) (eq-eqb p.side 0 turn)
+      ∙ cond-true (eqb (side_number p.side) 0) (after_handing q p i) (after_giving p i) (eq-eqb (side_number p.side) 0 (ap side_number turn))
       ∙ same-state (after_handing q p i) r first second side)
 
-  pub lands-giving : clash p ≡ false → p.side ≡ 1 → (r : PoolState) → (after_giving p i).first ≡ r.first → (after_giving p i).second ≡ r.second → 0 ≡ r.side → Lands q p i r
+  pub lands-giving : clash p ≡ false → p.side ≡ Kiln → (r : PoolState) → (after_giving p i).first ≡ r.first → (after_giving p i).second ≡ r.second → Controller ≡ r.side → Lands q p i r
   lands-giving apart turn r first second side =
       lands r
       (cond-false (clash p) p _ apart
-      ∙ cond-false (eqb p.side 0) (after_handing q p i) (after_giving p i) (ne_eqb p.side 0 (λ e. omega arith))
+      ∙ cond-false (eqb (side_number p.side) 0) (after_handing q p i) (after_giving p i) (ne_eqb (side_number p.side) 0 (λ e. let k = ap side_number turn in omega arith))
       ∙ same-state (after_giving p i) r first second side)

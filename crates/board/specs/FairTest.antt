@@ -1,9 +1,11 @@
 -- A test that shows a board to be fair, for boards that are computed. Nothing here has to be read to
 -- understand a contract.
-use Rattle.std.specs.Prelude.{◌≡◌, ℕ, zero, suc, ◌<◌, ◌≤◌, Bool, true, ◌&&◌, List, [], ◌∷◌, length, nat_le, nat_lt}
+use Rattle.std.specs.Prelude.{◌≡◌, ℕ, zero, suc, ◌<◌, ◌≤◌, Bool, true, ◌&&◌, List, length, nat_le, nat_lt}
 use Rattle.std.proofs.Common.{⊎_elim, arith}
 use Rattle.std.proofs.lemmas.Bool.{and_parts, leb-true, ltb-true, cases_lt}
-use Rattle.board.specs.Spot.{Spot, spot_at}
+use Rattle.std.specs.List.{list_all}
+use Rattle.std.proofs.lemmas.List.Sums.{AllPass-from_list_all}
+use Rattle.board.specs.Spot.{Spot, blank, spot_at}
 use Rattle.board.specs.Fair.{Fair, FairSpot}
 use Rattle.board.specs.Fairness.{rising-within, rising-ascends}
 use Rattle.board.specs.Rising.{rising}
@@ -29,8 +31,7 @@ fair_spot_test n s = nat_lt s.side 2 && (nat_lt s.label 16 && (nat_le (length s.
 
 -- every position of a list
 abbrev pub fair_spots_test : ℕ → List Spot → Bool
-fair_spots_test n [] = true
-fair_spots_test n (s ∷ b) = fair_spot_test n s && fair_spots_test n b
+fair_spots_test n b = list_all (fair_spot_test n) b
 
 -- the whole board
 abbrev pub fair_test : List Spot → Bool
@@ -50,9 +51,7 @@ fair-spot_from n s h =
     }
 
 fair-spots_from : (n : ℕ) (b : List Spot) → fair_spots_test n b ≡ true → (v : ℕ) → v < length b → FairSpot n (spot_at b v)
-fair-spots_from n [] h v lt = absurd (omega arith)
-fair-spots_from n (s ∷ b) h zero lt = fair-spot_from n s (and_parts (fair_spot_test n s) (fair_spots_test n b) h).0
-fair-spots_from n (s ∷ b) h (suc v) lt = fair-spots_from n b (and_parts (fair_spot_test n s) (fair_spots_test n b) h).1 v (omega arith)
+fair-spots_from n b h v lt = fair-spot_from n (spot_at b v) (AllPass-from_list_all (fair_spot_test n) b h v blank lt)
 
 -- a board that passes is fair
 pub fair-from : (b : List Spot) → fair_test b ≡ true → Fair b

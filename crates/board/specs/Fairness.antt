@@ -4,6 +4,7 @@ use Rattle.std.specs.Prelude.{◌≡◌, ℕ, zero, suc, ◌+◌, ◌<◌, ◌�
 use Rattle.std.proofs.Common.{add-one, arith, lit<, lit≤, length-take, length-drop, ⊎_elim}
 use Rattle.std.proofs.lemmas.Bool.{and_parts, or_cases, leb-true, ltb-true, eqb-true, cases_Bool, cases_lt, cond-true, cond-false}
 use Rattle.std.proofs.lemmas.List.{get_or-map, length-map}
+use Rattle.std.proofs.lemmas.List.Sums.{AllPass-from_list_all}
 use Rattle.board.specs.Spot.{blank}
 use Rattle.board.specs.Fair.{Fair, FairSpot}
 use Rattle.board.specs.Rising.{rising}
@@ -81,9 +82,7 @@ fair-spot n ms r t = record {
 
 -- each record of a tested list is tested
 pub tested_at : (n : ℕ) (ms : List ℕ) (rs : List Record) → sound_records n ms rs ≡ true → (v : ℕ) → v < length rs → Tested n ms (slice_index_or rs v blank_record)
-tested_at n ms [] h v lt = absurd (omega arith)
-tested_at n ms (r ∷ rs) h zero lt = tested n ms r (and_parts (sound_record n ms r) (sound_records n ms rs) h).0
-tested_at n ms (r ∷ rs) h (suc v) lt = tested_at n ms rs (and_parts (sound_record n ms r) (sound_records n ms rs) h).1 v (omega arith)
+tested_at n ms rs h v lt = tested n ms (slice_index_or rs v blank_record) (AllPass-from_list_all (sound_record n ms) rs h v blank_record lt)
 
 -- the parts of the test on a table
 pub sound_parts : (rs : List Record) (ms : List ℕ) → sound_table rs ms ≡ true → (1 ≤ length rs) × (length rs ≤ 512) × (sound_records (length rs) ms rs ≡ true)

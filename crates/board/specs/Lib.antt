@@ -1,3 +1,4 @@
+pub mod Side
 pub mod Spot
 pub mod Fair
 pub mod Rising

@@ -2,6 +2,7 @@
 use Rattle.std.specs.Prelude.{◌≡◌, ℕ, ◌+◌, ◌*◌, ◌/◌, ◌%◌, ◌<◌, ◌≤◌, Bool, cond, not, ◌&&◌, ◌||◌, List, map, Decides, filter, ◌==◌, nat_le}
 use Rattle.std.specs.List.{range_with_len}
 use Rattle.board.specs.Spot.{Spot, count_of, side_of, label_of, moves_of, move_of}
+use Rattle.board.specs.Side.{side_number, side_numbered}
 use Rattle.board.specs.declared.pool_state.PoolState.{PoolState}
 
 -- how many buffers there can be
@@ -18,15 +19,15 @@ pool_count q = (q + 1) * (q + 1) * 2
 
 -- a position that there is with q buffers
 abbrev pub InPool : ℕ → PoolState → Type 0
-InPool q p = (p.first ≤ q) × (p.second ≤ q) × (p.side < 2)
+InPool q p = (p.first ≤ q) × (p.second ≤ q)
 
 -- the number of a position
 abbrev pub pool_number : ℕ → PoolState → ℕ
-pool_number q p = (p.first * (q + 1) + p.second) * 2 + p.side
+pool_number q p = (p.first * (q + 1) + p.second) * 2 + side_number p.side
 
 -- the position that bears a number
 abbrev pub pool_state : ℕ → ℕ → PoolState
-pool_state q v = record { first = v / 2 / (q + 1); second = v / 2 % (q + 1); side = v % 2 }
+pool_state q v = record { first = v / 2 / (q + 1); second = v / 2 % (q + 1); side = side_numbered (v % 2) }
 
 -- both tasks have the same buffer
 abbrev pub clash : PoolState → Bool
@@ -58,10 +59,10 @@ one_changes way p r =
 abbrev pub pool_goes : PoolState → PoolState → Bool
 pool_goes p r =
     cond (clash p)
-    (p.first == r.first && (p.second == r.second && p.side == r.side))
-    (cond (p.side == 0)
-    (r.side == 1 && one_changes handed p r)
-    (r.side == 0 && one_changes given_back p r))
+    (p.first == r.first && (p.second == r.second && side_number p.side == side_number r.side))
+    (cond (side_number p.side == 0)
+    (side_number r.side == 1 && one_changes handed p r)
+    (side_number r.side == 0 && one_changes given_back p r))
 
 -- the numbers that the moves of a position lead to
 abbrev pub pool_moves : ℕ → PoolState → List ℕ
@@ -69,7 +70,7 @@ pool_moves q p = filter (λ w. pool_goes p (pool_state q w)) (range_with_len 0 (
 
 -- the position with number v, as a board has it
 abbrev pub pool_spot : ℕ → ℕ → Spot
-pool_spot q v = record { side = (pool_state q v).side; label = pool_label (pool_state q v); moves = pool_moves q (pool_state q v) }
+pool_spot q v = record { side = side_number (pool_state q v).side; label = pool_label (pool_state q v); moves = pool_moves q (pool_state q v) }
 
 -- the board with q buffers
 abbrev pub pool_board : ℕ → List Spot
@@ -82,6 +83,6 @@ Leads b v w = (i : ℕ) × (i < moves_of b v) × (move_of b v i ≡ w)
 -- a board shows every position with q buffers under its number, and its moves are those of the positions
 pub record ShowsPool (q : ℕ) (b : List Spot) : Type 0 where
   pub count : count_of b ≡ pool_count q
-  pub side : (p : PoolState) → InPool q p → side_of b (pool_number q p) ≡ p.side
+  pub side : (p : PoolState) → InPool q p → side_of b (pool_number q p) ≡ side_number p.side
   pub label : (p : PoolState) → InPool q p → label_of b (pool_number q p) ≡ pool_label p
   pub moves : (p r : PoolState) → InPool q p → InPool q r → Decides (pool_goes p r) (Leads b (pool_number q p) (pool_number q r))

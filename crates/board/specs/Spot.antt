@@ -1,5 +1,5 @@
 -- What a board is: the list of its positions, and the five questions that can be asked of it.
-use Rattle.std.specs.Prelude.{ℕ, ◌+◌, Bool, cond, List, [], ◌∷◌, ◌++◌, length, slice_index, slice_index_or}
+use Rattle.std.specs.Prelude.{◌≡◌, ℕ, ◌+◌, Bool, cond, List, [], ◌∷◌, ◌++◌, length, slice_index, slice_index_or}
 
 -- a position (a vertex of a parity game): who moves there (its owner), its label (its priority), and where the moves (its edges) lead
 pub record Spot : Type 0 where
@@ -44,3 +44,7 @@ all_moves (s ∷ b) = s.moves ++ all_moves b
 abbrev pub how_many : (Spot → Bool) → List Spot → ℕ
 how_many test [] = 0
 how_many test (s ∷ b) = cond (test s) (1 + how_many test b) (how_many test b)
+
+-- each answer to a question about a position by its number is that of the test
+abbrev pub Tests : (ℕ → Bool → Type 0) → (Spot → Bool) → List Spot → Type 0
+Tests answers test b = (v : ℕ) (r : Bool) → answers v r → r ≡ test (spot_at b v)

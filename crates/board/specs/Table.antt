@@ -1,5 +1,6 @@
 -- What records and moves in two slices show: the board of a table.
-use Rattle.std.specs.Prelude.{ℕ, ◌+◌, ◌<◌, ◌≤◌, Bool, true, cond, ◌&&◌, ◌||◌, List, [], ◌∷◌, map, length, take, drop, ◌==◌, nat_le, nat_lt, slice_index_or}
+use Rattle.std.specs.Prelude.{ℕ, ◌+◌, ◌<◌, ◌≤◌, Bool, cond, ◌&&◌, ◌||◌, List, [], ◌∷◌, map, length, take, drop, ◌==◌, nat_le, nat_lt, slice_index_or}
+use Rattle.std.specs.List.{list_all}
 use Rattle.board.specs.Spot.{Spot}
 use Rattle.board.specs.Fair.{Fair}
 use Rattle.board.specs.Rising.{rising}
@@ -29,8 +30,7 @@ sound_record n ms r =
 
 -- every record of a list
 abbrev pub sound_records : ℕ → List ℕ → List Record → Bool
-sound_records n ms [] = true
-sound_records n ms (r ∷ rs) = sound_record n ms r && sound_records n ms rs
+sound_records n ms rs = list_all (sound_record n ms) rs
 
 -- the whole table
 abbrev pub sound_table : List Record → List ℕ → Bool

@@ -1,9 +1,13 @@
 ghost use Rattle.std.specs.Prelude.{◌≡◌, List};
 ghost use Rattle.board.specs.Fair.{Fair};
+ghost use Rattle.board.specs.Side.{side_number};
 ghost use Rattle.board.specs.Spot.{Spot, count_of, side_of, label_of, moves_of, move_of};
 
+use crate::side::Side;
+
 // A board (the arena of a parity game): 1 to 512 positions, numbered from 0. Each question has one
-// answer, given by the board's meaning; where a position or a place is missing, it is 0.
+// answer, given by the board's meaning; where a position or a place is missing, it is 0, the controller's
+// number.
 pub trait Board {
     ghost meaning: { Self → List Spot };
 
@@ -13,9 +17,9 @@ pub trait Board {
     fn count(&self) -> u16
         ensures { result ≡ count_of (meaning self.now) };
 
-    // Who moves at the position: 0 the controller, 1 the kiln.
-    fn side(&self, position: u16) -> u8
-        ensures { result ≡ side_of (meaning self.now) position };
+    // Who moves at the position.
+    fn side(&self, position: u16) -> Side
+        ensures { side_number result ≡ side_of (meaning self.now) position };
 
     // The position's label, 0 to 15.
     fn label(&self, position: u16) -> u8

@@ -1,15 +1,17 @@
 ghost use Rattle.std.specs.Prelude.{◌≡◌};
 ghost use Rattle.board.specs.Pool.{clash, idle, pool_label};
 
-// A position of a pool board.
+use crate::side::Side;
+
+// Who has which buffer of a pool, and who moves.
 #[derive(Clone, Copy)]
 pub struct PoolState {
     // The buffer of the first task, 0 for none.
     pub first: u16,
     // The buffer of the second.
     pub second: u16,
-    // The side that moves: 0 the controller, 1 the kiln.
-    pub side: u8,
+    // The side that moves.
+    pub side: Side,
 }
 
 impl PoolState {
@@ -26,9 +28,8 @@ impl PoolState {
     {
         match (self.first, self.second) {
             (0, 0) => 2,
-            (0, _) => 1,
-            (_, 0) => 1,
-            (_, _) => 0,
+            (0, _) | (_, 0) => 1,
+            _ => 0,
         }
     }
 

@@ -3,7 +3,8 @@
 pub struct Record {
     pub side: u8,
     pub label: u8,
-    // The place of its first move in the move slice.
+    // The place of its first move in the move slice: places, and no slice of moves, since a record lies in
+    // a slice that a caller lends.
     pub first: u16,
     // How many moves it has.
     pub count: u16,

@@ -1,5 +1,18 @@
-ghost use Rattle.std.specs.Prelude.{◌≡◌};
+ghost use Rattle.std.specs.Prelude.{◌≡◌, ◌<◌, ℕ};
+ghost use Rattle.std.proofs.Common.{rules};
 ghost use Rattle.board.specs.Refusals.{number_of, pool_number_of};
+
+// Why a call was refused. Each refusal has a number, by which it is known outside; 0 is left for what was
+// not refused. Each impl casts an enum of its own, which code over any of them cannot.
+pub trait Refusal: Copy {
+    ghost known_as: { Self → ℕ };
+
+    // The number by which the refusal is known outside.
+    fn number(&self) -> u8
+        ensures { result ≡ known_as self.now };
+
+    ghost above_0: { (x : Self) → 0 < known_as x };
+}
 
 // Why a table was refused.
 #[derive(Clone, Copy, Debug, PartialEq, Eq)]
@@ -8,11 +21,12 @@ pub enum TableRefusal {
     Unsound = 20,
 }
 
-impl TableRefusal {
-    // The number by which the refusal is known outside.
-    pub fn number(&self) -> u8
-        ensures { result ≡ number_of self.now }
-    {
+impl Refusal for TableRefusal {
+    ghost known_as = { number_of };
+
+    ghost above_0 = { Prim.search rules };
+
+    fn number(&self) -> u8 {
         *self as u8
     }
 }
@@ -24,13 +38,12 @@ pub enum PoolRefusal {
     BadBuffers = 26,
 }
 
-impl PoolRefusal {
-    // The number by which the refusal is known outside.
-    pub fn number(&self) -> u8
-        ensures { result ≡ pool_number_of self.now }
-    {
-        match self {
-            PoolRefusal::BadBuffers => 26,
-        }
+impl Refusal for PoolRefusal {
+    ghost known_as = { pool_number_of };
+
+    ghost above_0 = { Prim.search rules };
+
+    fn number(&self) -> u8 {
+        *self as u8
     }
 }

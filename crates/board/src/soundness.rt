@@ -9,14 +9,7 @@ use crate::records::Record;
 fn ascend_below(count: u16, moves: &[u16]) -> bool
     ensures { result ≡ rising count 0 moves.now }
 {
-    let mut low = 0;
-    for m in moves {
-        if *m < low || *m >= count {
-            return false;
-        }
-        low = *m + 1;
-    }
-    true
+    moves.iter().all(|m| *m < count) && moves.is_sorted_by(|m, next| m < next)
 }
 
 // Whether the record keeps the limits in a table of `count` positions over these moves.
@@ -26,26 +19,20 @@ fn keeps_limits(count: u16, record: &Record, moves: &[u16]) -> bool
     if record.side > HIGHEST_SIDE || record.label > HIGHEST_LABEL || record.count > MOST_MOVES {
         return false;
     }
-    if record.count == 0 {
-        return true;
-    }
-    let start = record.first as usize;
-    let end = start + record.count as usize;
-    end <= moves.len() && ascend_below(count, &moves[start..end])
+    let start = usize::from(record.first);
+    let end = start + usize::from(record.count);
+    record.count == 0 || end <= moves.len() && ascend_below(count, &moves[start..end])
 }
 
 // Whether the two slices show a board.
 pub(crate) fn is_sound(records: &[Record], moves: &[u16]) -> bool
     ensures { result ≡ sound_table records.now moves.now }
 {
-    if records.is_empty() || records.len() > MOST_POSITIONS as usize {
+    if records.is_empty() || records.len() > usize::from(MOST_POSITIONS) {
         return false;
     }
     let count = records.len() as u16;
-    for record in records {
-        if !keeps_limits(count, record, moves) {
-            return false;
-        }
-    }
-    true
+    records
+        .iter()
+        .all(|record| keeps_limits(count, record, moves))
 }

@@ -3,6 +3,8 @@ ghost use Rattle.board.specs.Summary.{summary_of};
 
 use crate::board::Board;
 use crate::counts::{count_label, count_moves, count_side};
+use crate::side::Side;
+use std::array;
 
 // What there is on a board, in numbers.
 #[derive(Clone, Copy, Debug, PartialEq, Eq)]
@@ -21,14 +23,10 @@ pub struct Summary {
 pub fn summarise<B: Board>(board: &B) -> Summary
     ensures { result ≡ summary_of (B.Board.meaning board.now) }
 {
-    let mut labels = [0; 16];
-    for label in 0..16u8 {
-        labels[label as usize] = count_label(board, label);
-    }
     Summary {
-        controller: count_side(board, 0),
-        kiln: count_side(board, 1),
-        labels,
+        controller: count_side(board, Side::Controller as u8),
+        kiln: count_side(board, Side::Kiln as u8),
+        labels: array::from_fn(|label| count_label(board, label as u8)),
         moves: count_moves(board),
     }
 }

@@ -1,11 +1,14 @@
 ghost use Rattle.std.specs.Prelude.{◌≡◌, is_ok, if◌then◌else◌, Decides, slice_index_or};
 ghost use Rattle.board.specs.Fairness.{board_of-fair};
-ghost use Rattle.board.specs.Refusals.{number_answered, table_answer};
+ghost use Rattle.board.specs.Refusals.{number_answered, number_of, refused_unless};
+ghost use Rattle.board.specs.declared.refusals.TableRefusal.TheVariants.{Unsound};
+ghost use Rattle.board.specs.Spot.{spot_at};
 ghost use Rattle.board.specs.Table.{Sound, blank_record, sound_table, kept, board_of};
 
 use crate::board::Board;
 use crate::records::Record;
 use crate::refusals::TableRefusal;
+use crate::side::Side;
 use crate::soundness::is_sound;
 
 // The board that records and moves in two slices show. Over slices that are not sound it is bare:
@@ -14,14 +17,15 @@ use crate::soundness::is_sound;
 pub struct Table<'a> {
     records: &'a [Record],
     moves: &'a [u16],
-    // Decided once, when the table is made, so that each question is answered in constant time.
+    // Decided once, when the table is made, so that each question is answered in constant time. A flag beside
+    // the slices, and no `Option` of them: both stand here as they were given, sound or not.
     sound: bool,
     ghost decided: { sound ≡ sound_table records.now moves.now },
 }
 
 // The one position of the bare board.
 const BARE: Record = Record {
-    side: 1,
+    side: Side::Kiln as u8,
     label: 0,
     first: 0,
     count: 0,
@@ -30,8 +34,8 @@ const BARE: Record = Record {
 impl<'a> Table<'a> {
     // The question beforehand: whether the slices are sound, or refusal 20.
     pub fn check(records: &[Record], moves: &[u16]) -> Result<(), TableRefusal>
-        ensures answer { result ≡ table_answer (sound_table records.now moves.now) }
-        ensures number { number_answered result ≡ (if sound_table records.now moves.now then 0 else 20) }
+        ensures answer { result ≡ refused_unless (sound_table records.now moves.now) Unsound }
+        ensures number { number_answered number_of result ≡ (if sound_table records.now moves.now then 0 else 20) }
         ensures means { Decides (is_ok result) (Sound records.now moves.now) }
     {
         if is_sound(records, moves) {
@@ -54,21 +58,32 @@ impl<'a> Table<'a> {
         }
     }
 
+    // The records that count: those of the slice, or the bare board's one where the slices are not sound.
+    fn kept(&self) -> &'a [Record]
+        ensures { result.now ≡ kept self.now.records.now self.now.moves.now }
+    {
+        if self.sound { self.records } else { &[BARE] }
+    }
+
     // The record that counts at the position, or the blank one where there is none.
     fn record(&self, position: u16) -> Record
         ensures { result ≡ slice_index_or (kept self.now.records.now self.now.moves.now) position blank_record }
     {
-        let position = position as usize;
-        if self.sound {
-            match self.records.get(position) {
-                Some(record) => *record,
-                None => Record::BLANK,
-            }
-        } else if position == 0 {
-            BARE
-        } else {
-            Record::BLANK
-        }
+        self.kept()
+            .get(usize::from(position))
+            .copied()
+            .unwrap_or(Record::BLANK)
+    }
+
+    // The moves of that record.
+    fn moves_at(&self, position: u16) -> &'a [u16]
+        ensures { result.now ≡ (spot_at (board_of self.now.records.now self.now.moves.now) position).moves }
+    {
+        let record = self.record(position);
+        let start = usize::from(record.first);
+        let end = start + usize::from(record.count);
+        // A record that has no moves may have its place past the end of the slice.
+        self.moves.get(start..end).unwrap_or(&[])
     }
 }
 
@@ -78,15 +93,12 @@ impl<'a> Board for Table<'a> {
     ghost fair = { λ t. board_of-fair t.records.now t.moves.now };
 
     fn count(&self) -> u16 {
-        if self.sound {
-            self.records.len() as u16
-        } else {
-            1
-        }
+        self.kept().len() as u16
     }
 
-    fn side(&self, position: u16) -> u8 {
-        self.record(position).side
+    fn side(&self, position: u16) -> Side {
+        // A record that counts has one of the two numbers.
+        Side::try_from(self.record(position).side).unwrap()
     }
 
     fn label(&self, position: u16) -> u8 {
@@ -94,16 +106,13 @@ impl<'a> Board for Table<'a> {
     }
 
     fn moves(&self, position: u16) -> u8 {
-        self.record(position).count as u8
+        self.moves_at(position).len() as u8
     }
 
     fn move_at(&self, position: u16, place: u8) -> u16 {
-        let record = self.record(position);
-        let place = place as u16;
-        if place < record.count {
-            self.moves[record.first as usize + place as usize]
-        } else {
-            0
-        }
+        self.moves_at(position)
+            .get(usize::from(place))
+            .copied()
+            .unwrap_or(0)
     }
 }

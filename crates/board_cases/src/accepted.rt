@@ -4,7 +4,6 @@ use crate::checks::{
     FILLER, THREE, check_judged, check_kept, check_same, read_answer, write_answer,
 };
 use board::{Board, Record, Table, count_label, count_moves, count_side};
-use std::test::Fail;
 
 const ACCEPTED: [(&str, u8, u16); 6] = [
     (THREE, 0, 0),
@@ -77,16 +76,15 @@ fn accepts_boards_within_the_limits(rt: HostRuntime) {
 }
 
 #[test]
-fn reads_three_positions_and_keeps_later_places(rt: HostRuntime) -> Result<(), Fail> {
+fn reads_three_positions_and_keeps_later_places(rt: HostRuntime) {
     let mut records = [FILLER; 5];
     let mut moves = [7777; 8];
     let answer = read_answer(THREE.as_bytes(), &mut records, &mut moves);
     assert_eq!(rt; answer, ((3, 5), (0, 0)));
-    check_same(&rt, "records", &records[0..3], &RECORDS)?;
-    check_same(&rt, "moves", &moves[0..5], &MOVES)?;
+    check_same(&rt, "records", &records[0..3], &RECORDS);
+    check_same(&rt, "moves", &moves[0..5], &MOVES);
     check_kept(&rt, "later records", &records[3..5], FILLER);
     check_kept(&rt, "later moves", &moves[5..8], 7777);
-    Ok(())
 }
 
 #[test]
@@ -95,7 +93,7 @@ fn a_table_answers_its_questions(rt: HostRuntime) {
     assert_eq!(rt; table.count(), 3);
     for (position, side, label, moves) in &POSITIONS {
         let answers = (
-            table.side(*position),
+            table.side(*position) as u8,
             table.label(*position),
             table.moves(*position),
         );
@@ -111,24 +109,21 @@ fn a_table_answers_its_questions(rt: HostRuntime) {
 }
 
 #[test]
-fn writes_three_positions_and_keeps_later_bytes(rt: HostRuntime) -> Result<(), Fail> {
+fn writes_three_positions_and_keeps_later_bytes(rt: HostRuntime) {
     let mut out = [b'#'; 60];
     assert_eq!(rt; write_answer(&RECORDS, &MOVES, &mut out), (55, 0));
-    check_same(&rt, "the text", &out[0..55], THREE.as_bytes())?;
+    check_same(&rt, "the text", &out[0..55], THREE.as_bytes());
     check_kept(&rt, "later bytes", &out[55..60], b'#');
-    Ok(())
 }
 
 #[test]
 fn counts_sides_labels_and_moves(rt: HostRuntime) {
     let table = Table::new(&RECORDS, &MOVES);
     assert_eq!(rt; count_moves(&table), 5);
-    let sides = [3, 0, 0];
-    for (side, count) in sides.iter().enumerate() {
-        assert_eq!(rt; count_side(&table, side as u8), *count, "side {side}");
+    for (side, count) in (0..3u8).zip([3, 0, 0]) {
+        assert_eq!(rt; count_side(&table, side), count, "side {side}");
     }
-    let labels = [1, 1, 0, 1, 0];
-    for (label, count) in labels.iter().enumerate() {
-        assert_eq!(rt; count_label(&table, label as u8), *count, "label {label}");
+    for (label, count) in (0..5u8).zip([1, 1, 0, 1, 0]) {
+        assert_eq!(rt; count_label(&table, label), count, "label {label}");
     }
 }

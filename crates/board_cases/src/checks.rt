@@ -1,10 +1,9 @@
 // What tests of several modules do alike. Answers are turned into plain numbers, in which the cases are
-// written; 0 stands where nothing was refused.
-use board::{Record, Table};
+// written; 0 stands where nothing was refused. A match does it where both sides have numbers of their own.
+use board::{Record, Refusal, Table};
 use board_text::{read, write};
 use std::fmt::Debug;
 use std::process::Abort;
-use std::test::Fail;
 
 // A record that no table keeps: what stands in a slice before anything is read.
 pub(crate) const FILLER: Record = Record {
@@ -40,10 +39,9 @@ pub(crate) fn write_answer<'a>(
 
 // The refusal's number that the question about the two slices answers.
 pub(crate) fn table_answer(records: &[Record], moves: &[u16]) -> u8 {
-    match Table::check(records, moves) {
-        Ok(()) => 0,
-        Err(refusal) => refusal.number(),
-    }
+    Table::check(records, moves)
+        .err()
+        .map_or(0, |refusal| refusal.number())
 }
 
 // What a reader with room for 4 records and 32 moves says of the text.
@@ -64,18 +62,11 @@ pub(crate) fn check_judged(rt: &impl Abort, cases: &[(&str, u8, u16)]) {
     }
 }
 
-// The two slices are the same, place by place.
-pub(crate) fn check_same<T: PartialEq + Debug + Copy>(
-    rt: &impl Abort,
-    what: &str,
-    left: &[T],
-    right: &[T],
-) -> Result<(), Fail> {
+// The two slices are the same; else the first place that differs is told.
+pub(crate) fn check_same<T: PartialEq>(rt: &impl Abort, what: &str, left: &[T], right: &[T]) {
     assert_eq!(rt; left.len(), right.len(), "places of {what}");
-    for (i, (a, b)) in left.iter().zip(right.iter()).enumerate() {
-        assert_eq!(rt; *a, *b, "place {i} of {what}");
-    }
-    Ok(())
+    let differs = left.iter().zip(right).position(|(a, b)| a != b);
+    assert_eq!(rt; differs, None, "the place of {what} that differs");
 }
 
 // Every place still holds the filler that stood there before.

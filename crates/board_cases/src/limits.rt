@@ -39,16 +39,14 @@ fn longest_text(heap: Global) -> Result<Vec<u8>, AllocError> {
 
 // The records of that board.
 fn longest_records(heap: Global) -> Result<Vec<Record>, AllocError> {
-    let mut records = Vec::new(heap);
-    for position in 0..512u16 {
-        records.push(Record {
+    (0..512u16)
+        .map(|position| Record {
             side: (position % 2) as u8,
             label: (position % 16) as u8,
             first: 16 * position,
             count: 16,
-        })?;
-    }
-    Ok(records)
+        })
+        .collect(heap)
 }
 
 // The moves of that board.
@@ -75,9 +73,10 @@ fn reads_the_longest_text(rt: HostRuntime) -> Result<(), Fail> {
     );
     assert_eq!(rt; answer, ((512, 8192), (0, 0)));
     let expected = longest_records(rt.alloc())?;
-    check_same(&rt, "records", records.as_slice(), expected.as_slice())?;
+    check_same(&rt, "records", records.as_slice(), expected.as_slice());
     let expected = longest_moves(rt.alloc())?;
-    check_same(&rt, "moves", moves.as_slice(), expected.as_slice())
+    check_same(&rt, "moves", moves.as_slice(), expected.as_slice());
+    Ok(())
 }
 
 // The longest text is refused by slices with so much room, and they are left as they were.
@@ -115,7 +114,8 @@ fn writes_the_longest_text_where_it_just_fits(rt: HostRuntime) -> Result<(), Fai
     let answer = write_answer(records.as_slice(), moves.as_slice(), out.as_mut_slice());
     assert_eq!(rt; answer, (LENGTH, 0));
     let text = longest_text(rt.alloc())?;
-    check_same(&rt, "the text", out.as_slice(), text.as_slice())
+    check_same(&rt, "the text", out.as_slice(), text.as_slice());
+    Ok(())
 }
 
 #[test]
@@ -133,7 +133,7 @@ fn does_not_write_the_longest_text_where_one_byte_is_missing(rt: HostRuntime) ->
 fn reformats_the_longest_text(rt: HostRuntime) -> Result<(), Fail> {
     let text = longest_text(rt.alloc())?;
     let done = reformat(rt.alloc(), text.as_slice())?;
-    check_same(&rt, "the text", done.text.as_slice(), text.as_slice())?;
+    check_same(&rt, "the text", done.text.as_slice(), text.as_slice());
     let Ok(summary) = done.outcome else {
         return Err(Fail::new("the text was refused"));
     };

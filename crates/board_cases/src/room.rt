@@ -3,7 +3,6 @@ use crate::accepted::{MOVES, RECORDS};
 use crate::checks::{FILLER, THREE, check_kept, check_same, read_answer, write_answer};
 use board::Record;
 use std::process::Abort;
-use std::test::Fail;
 
 // Texts with a fault, its number and its line.
 const FAULTY: [(&str, u8, u16); 4] = [
@@ -69,10 +68,10 @@ fn check_not_written(rt: &impl Abort, out: &mut [u8]) {
 }
 
 #[test]
-fn writes_only_into_a_slice_that_is_long_enough(rt: HostRuntime) -> Result<(), Fail> {
+fn writes_only_into_a_slice_that_is_long_enough(rt: HostRuntime) {
     check_not_written(&rt, &mut [b'#'; 0]);
     check_not_written(&rt, &mut [b'#'; 54]);
     let mut out = [b'#'; 55];
     assert_eq!(rt; write_answer(&RECORDS, &MOVES, &mut out), (55, 0));
-    check_same(&rt, "the text", &out, THREE.as_bytes())
+    check_same(&rt, "the text", &out, THREE.as_bytes());
 }

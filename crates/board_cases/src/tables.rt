@@ -1,6 +1,6 @@
 // Tables that are sound and tables that are not, and the numbers of all refusals.
 use crate::checks::table_answer;
-use board::{Board, Record, Table, TableRefusal};
+use board::{Board, Record, Refusal, Side, Table, TableRefusal, UnknownSide};
 use board_text::{TextRefusal, WriteRefusal};
 use std::fmt::Display;
 use std::process::Abort;
@@ -72,13 +72,13 @@ fn check_bare<'a>(rt: &impl Abort, what: &impl Display, records: &'a [Record], m
     let table = Table::new(records, moves);
     assert_eq!(rt; table.count(), 1, "{what}");
     assert_eq!(rt;
-        (table.side(0), table.label(0), table.moves(0)),
+        (table.side(0) as u8, table.label(0), table.moves(0)),
         (1, 0, 0),
         "{what}"
     );
     assert_eq!(rt; table.move_at(0, 0), 0, "{what}");
     assert_eq!(rt;
-        (table.side(1), table.label(1), table.moves(1)),
+        (table.side(1) as u8, table.label(1), table.moves(1)),
         (0, 0, 0),
         "{what}"
     );
@@ -111,7 +111,11 @@ fn a_sound_table_shows_its_records(rt: HostRuntime) {
         let records = [PLAIN, record];
         check_shown(&rt, &format_args!("{case:?} last"), &records, &MOVES, 2);
         let table = Table::new(&records, &MOVES);
-        let answers = (table.side(1), table.label(1), u16::from(table.moves(1)));
+        let answers = (
+            table.side(1) as u8,
+            table.label(1),
+            u16::from(table.moves(1)),
+        );
         assert_eq!(rt; answers, (side, label, count), "{case:?}");
         assert_eq!(rt; table.move_at(1, 0), *to, "{case:?}");
     }
@@ -157,6 +161,16 @@ fn a_record_has_at_most_16_moves(rt: HostRuntime) {
     assert_eq!(rt; Table::new(&records, &moves).move_at(16, 15), 16);
     records[16] = record_of((1, 2, 0, 17));
     check_bare(&rt, &"17 moves", &records, &moves);
+}
+
+#[test]
+fn two_numbers_stand_for_sides(rt: HostRuntime) {
+    assert_eq!(rt; Side::try_from(0), Ok(Side::Controller));
+    assert_eq!(rt; Side::try_from(1), Ok(Side::Kiln));
+    assert_eq!(rt; (Side::Controller as u8, Side::Kiln as u8), (0, 1));
+    for number in 2..=255u8 {
+        assert_eq!(rt; Side::try_from(number), Err(UnknownSide(number)));
+    }
 }
 
 #[test]

@@ -1,7 +1,7 @@
 -- The first line and the last, which write a number: each is read as it, and what was read as one is its line.
 use Rattle.std.proofs.Common.{◌≡◌, ℕ, ◌+◌, ◌<◌, ◌≤◌, true, ◌&&◌, eqb, leb, List, [], ◌∷◌, ◌++◌, length, Ok, sym, refl, ap, ◌∙◌, subst, arith}
 use Rattle.std.proofs.lemmas.List.{nil_from_length}
-use Rattle.std.proofs.lemmas.Bool.{and_parts, and_from, leb-true, eqb-true, le-leb, eq-eqb, cond-true}
+use Rattle.std.proofs.lemmas.Bool.{and_parts, and_from, leb-true, eqb-true, eq-eqb, cond-true}
 use Rattle.std.proofs.lemmas.Bool.Decides.{nat_tests}
 use Rattle.board_text.specs.Digits.{is_digit, hex4, all_digits}
 use Rattle.board_text.specs.Verdict.{is_frame, is_kind, is_number_line, number_in, next_line, count_in, total_in, nothing_more, end_in}
@@ -40,7 +40,7 @@ formed_number k l framed formed =
 -- the line of a count from 1 to 512 is read as that count
 pub count-read : (line n : ℕ) → 1 ≤ n → n ≤ 512 → count_in line (number_digits 1 n) ≡ Ok n
 count-read line n some most =
-    rw (four-hex4 n (omega arith)) (cond-true (leb 1 n && leb n 512) _ _ (and_from (leb 1 n) _ (le-leb 1 n some) (le-leb n 512 most)))
+    rw (four-hex4 n (omega arith)) (grind (arith, nat_tests))
 
 -- what was read as a count is from 1 to 512, and the line is its line
 pub read_count : (line : ℕ) (l : List ℕ) (n : ℕ) → is_frame l ≡ true → count_in line l ≡ Ok n → (l ≡ number_digits 1 n) × (1 ≤ n) × (n ≤ 512)
@@ -64,7 +64,7 @@ nothing_left : (line : ℕ) (t : List ℕ) (u : Unit {0}) → nothing_more line 
 nothing_left line [] u h = refl
 nothing_left line (c ∷ cs) u h =
     let next = went_on (next_line line (c ∷ cs)) _ u h in
-    let z : ◌≡◌ {A = ℕ} 0 1 = cc next.2 in absurd (omega arith)
+    cc next.2
 
 -- what was read as the end is the last line with the total
 pub read_end : (total line : ℕ) (t : List ℕ) (u : Unit {0}) → end_in total line t ≡ Ok u → t ≡ number_digits 3 total ++ 10 ∷ []

@@ -1,16 +1,15 @@
 -- The two slices, filled position by position.
-use Rattle.std.proofs.Common.{◌≡◌, ℕ, suc, ◌+◌, ◌-◌, ◌*◌, ◌<◌, ◌≤◌, true, ◌&&◌, ltb, List, ◌∷◌, length, drop, set, is_ok, Ok, Err, Result, sym, refl, ap, ◌∙◌, subst, arith}
-use Rattle.std.proofs.lemmas.List.{length-append, length-drop}
-use Rattle.std.proofs.lemmas.Bool.{false≢true}
-use Rattle.std.proofs.lemmas.Bool.Decides.{nat_tests}
+use Rattle.std.proofs.Common.{◌≡◌, ℕ, suc, ◌+◌, ◌-◌, ◌*◌, ◌<◌, ◌≤◌, true, ◌&&◌, ltb, List, [], ◌∷◌, length, set, is_ok, Ok, Err, Result, MatchResult, sym, refl, ap, ◌∙◌, subst, arith}
+use Rattle.std.specs.Result.{IsOk}
+use Rattle.std.proofs.lemmas.List.{length-append}
 use Rattle.board.specs.Rising.{rising}
 use Rattle.board.specs.Spot.{Spot, all_moves}
 use Rattle.board.specs.declared.records.Record.{Record}
 use Rattle.board_text.specs.Put.{put}
-use Rattle.board_text.specs.Passes.{found}
+use Rattle.board_text.specs.Passes.{after_opening, board_in}
 use Rattle.board_text.specs.Reading.{record_of, records_of}
 use Rattle.board_text.specs.Verdict.{Fault, is_spot_line, next_line, spot_written, spot_in, spots_in}
-use Rattle.board_text.proofs.Fours.{length_fours}
+use Rattle.board_text.proofs.Fitted.{good_spots}
 use Rattle.board_text.proofs.Framed.{went_on, passed}
 use Rattle.board_text.proofs.Puts.{length-put, put-append}
 
@@ -34,15 +33,7 @@ spot_is_written n line l s h =
     let rises = passed (rising n 0 w.moves) _ _ s known.1 in
     (formed.0, cc rises.1)
 
--- such a line gives at most sixteen moves
-pub line-few : (l : List ℕ) → is_spot_line l ≡ true → length (spot_written l).moves ≤ 16
-line-few l form =
-    let short : length l ≤ 70 = grind (arith, nat_tests) in
-    let many = length_fours (drop 6 l) in
-    let long = length-drop 6 l in
-    omega arith
-
-module _ (n i m taken : ℕ) (t : List ℕ) (rs : List Record) (ms : List ℕ) (rs-end : List Record) (ms-end : List ℕ) (lt : i < n) (so : Filling n i m taken t rs ms rs-end ms-end) where
+module _ {n i m taken : ℕ} {t : List ℕ} {rs : List Record} {ms : List ℕ} {rs-end : List Record} {ms-end : List ℕ} (lt : i < n) (so : Filling n i m taken t rs ms rs-end ms-end) where
   at_next : spots_in n (suc (n - (i + 1))) (taken + 1) t ≡ Ok (so.left, so.after)
   at_next =
       let line = so.line in
@@ -51,13 +42,13 @@ module _ (n i m taken : ℕ) (t : List ℕ) (rs : List Record) (ms : List ℕ) (
       ap (λ (k : ℕ). spots_in n k (taken + 1) t) one ∙ ap (λ (k : ℕ). spots_in n (n - i) k t) two ∙ so.spots
 
   -- a line is there
-  pub filling-has-line : (f : Fault) → next_line (taken + 1) t ≡ Err f → ⊥
-  filling-has-line f h =
+  pub filling-has-line : {L : Type 0} (P : L → Type 0) (r : Result L Fault) → MatchResult r P (λ e. next_line (taken + 1) t ≡ Err e) → IsOk r
+  filling-has-line P (Ok l) h = refl
+  filling-has-line P (Err f) h =
       let first = went_on (next_line (taken + 1) t) _ (so.left, so.after) at_next in
-      let never : ◌≡◌ {A = ℕ} 0 1 = cc (h, first.1) in
-      omega arith
+      cc (h, first.1)
 
-  module _ (l r : List ℕ) (taken-off : next_line (taken + 1) t ≡ Ok (l, r)) where
+  module _ {l r : List ℕ} (taken-off : next_line (taken + 1) t ≡ Ok (l, r)) where
     -- and it gives the first of the positions left
     found-next : (is_spot_line l ≡ true) × (b : List Spot) × (so.left ≡ spot_written l ∷ b) × (spots_in n (n - (i + 1)) (taken + 1 + 1) r ≡ Ok (b, so.after))
     found-next =
@@ -90,49 +81,57 @@ module _ (n i m taken : ℕ) (t : List ℕ) (rs : List Record) (ms : List ℕ) (
         omega arith
 
     -- once it is filled in, one position fewer is left
-    pub filling-more : (m' taken' : ℕ) (rs' : List Record) (ms' : List ℕ) (q : Record) → q ≡ record_of m (spot_written l) → m' ≡ m + q.count → taken' ≡ taken + 1 → rs' ≡ set rs i q → ms' ≡ put m (spot_written l).moves ms → Filling n (i + 1) m' taken' r rs' ms' rs-end ms-end
-    filling-more m' taken' rs' ms' q is counted line records moves =
-        let s = spot_written l in
+    pub filling-more : {m' taken' : ℕ} {rs' : List Record} {ms' : List ℕ} {s : Spot} → s ≡ spot_written l → m' ≡ m + length s.moves → length s.moves ≤ 16 → taken' ≡ taken + 1 → rs' ≡ set rs i (record_of m s) → ms' ≡ put m s.moves ms → Filling n (i + 1) m' taken' r rs' ms' rs-end ms-end
+    filling-more {m'} {taken'} {rs'} {ms'} {s} is size small line records moves =
         let b = found-next.1 in
-        let size : m' ≡ m + length s.moves = counted ∙ ap (λ (x : Record). m + x.count) is in
+        let left : so.left ≡ s ∷ b = found-next.2 ∙ ap (λ (x : Spot). x ∷ b) (sym is) in
         let before = so.line in
         let lines : taken + 1 + 1 ≡ i + 1 + 2 = omega arith in
-        let small = line-few l filling-form in
         let few = so.few in
         let room = so.room in
-        let all = ap (λ (x : List Spot). length (all_moves x)) found-next.2 in
+        let all = ap (λ (x : List Spot). length (all_moves x)) left in
         let both = length-append s.moves (all_moves b) in
         let long = ap length moves ∙ length-put m s.moves ms in
         record {
           left = b;
           after = so.after;
           spots = sym (ap (λ (k : ℕ). spots_in n (n - (i + 1)) k r) lines) ∙ found-next.3;
-          records = ap (put (i + 1) (records_of m' b)) (records ∙ ap (set rs i) is)
+          records = ap (put (i + 1) (records_of m' b)) records
               ∙ ap (λ (k : ℕ). put (i + 1) (records_of k b) (set rs i (record_of m s))) size
-              ∙ sym (ap (λ (x : List Spot). put i (records_of m x) rs) found-next.2)
+              ∙ sym (ap (λ (x : List Spot). put i (records_of m x) rs) left)
               ∙ so.records;
           moves = ap (put m' (all_moves b)) moves
               ∙ ap (λ (k : ℕ). put k (all_moves b) (put m s.moves ms)) size
               ∙ sym (put-append m s.moves (all_moves b) ms)
-              ∙ sym (ap (λ (x : List Spot). put m (all_moves x) ms) found-next.2)
+              ∙ sym (ap (λ (x : List Spot). put m (all_moves x) ms) left)
               ∙ so.moves;
           room = omega arith;
           line = omega arith;
           few = omega arith;
         }
 
--- what was found there
-found-is : (r : Result (List Spot × List ℕ) Fault) → is_ok r ≡ true → (after : List ℕ) × (r ≡ Ok (found r, after))
-found-is (Ok p) good = (p.1, refl)
-found-is (Err e) good = absurd (false≢true good)
+-- the positions that were read
+abbrev found : Result (List Spot × List ℕ) Fault → List Spot
+found (Ok p) = p.0
+found (Err e) = []
+
+-- after the last position
+pub filling_all : {n i m taken : ℕ} {t : List ℕ} {rs : List Record} {ms : List ℕ} {rs-end : List Record} {ms-end : List ℕ} → i ≡ n → Filling n i m taken t rs ms rs-end ms-end → (rs ≡ rs-end) × (ms ≡ ms-end)
+filling_all {n} {i} {m} {taken} {t} {rs} {ms} end so =
+    let none : n - i ≡ 0 = omega arith in
+    let spots = sym (ap (λ (k : ℕ). spots_in n k (i + 2) t) none) ∙ so.spots in
+    let left : [] ≡ so.left = ap found spots in (
+      ap (λ (x : List Spot). put i (records_of m x) rs) left ∙ so.records,
+      ap (λ (x : List Spot). put m (all_moves x) ms) left ∙ so.moves,
+    )
 
 -- before the first position
-pub filling_none : (n : ℕ) (t : List ℕ) (rs : List Record) (ms : List ℕ) (taken : ℕ) → is_ok (spots_in n n 2 t) ≡ true → length (all_moves (found (spots_in n n 2 t))) ≤ length ms → taken ≡ 1 → Filling n 0 0 taken t rs ms (put 0 (records_of 0 (found (spots_in n n 2 t))) rs) (put 0 (all_moves (found (spots_in n n 2 t))) ms)
-filling_none n t rs ms taken good room first =
-    let is = found-is (spots_in n n 2 t) good in
+pub filling_none : (n taken : ℕ) (t : List ℕ) (rs : List Record) (ms : List ℕ) → is_ok (after_opening n t) ≡ true → length (all_moves (board_in (after_opening n t))) ≤ length ms → taken ≡ 1 → Filling n 0 0 taken t rs ms (put 0 (records_of 0 (board_in (after_opening n t))) rs) (put 0 (all_moves (board_in (after_opening n t))) ms)
+filling_none n taken t rs ms good room first =
+    let is = good_spots n t good in
     let whole : n - 0 ≡ n = omega arith in
     record {
-      left = found (spots_in n n 2 t);
+      left = board_in (after_opening n t);
       after = is.0;
       spots = ap (λ (k : ℕ). spots_in n k 2 t) whole ∙ is.1;
       records = refl;

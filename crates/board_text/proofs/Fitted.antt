@@ -1,10 +1,11 @@
 -- What reading gives, from what the survey found.
-use Rattle.std.proofs.Common.{◌≡◌, ℕ, suc, ◌+◌, ◌<◌, ◌≤◌, true, leb, ◌⊎◌, List, [], ◌∷◌, length, is_ok, Ok, Err, Result, sym, refl, ap, ◌∙◌, ⊎_elim, arith}
-use Rattle.std.proofs.lemmas.Bool.{false≢true, and_from, and_left, and_right, le-leb, lt-leb, cond-true, cond-false}
+use Rattle.std.proofs.Common.{◌≡◌, ℕ, suc, ◌+◌, ◌<◌, ◌≤◌, true, ◌⊎◌, List, [], ◌∷◌, length, is_ok, Ok, Err, Result, refl, ap, ◌∙◌, arith}
+use Rattle.std.proofs.lemmas.Bool.{false≢true}
+use Rattle.std.proofs.lemmas.Bool.Decides.{nat_tests}
 use Rattle.board.specs.Spot.{Spot, all_moves}
-use Rattle.board_text.specs.Passes.{found, board_in}
-use Rattle.board_text.specs.Reading.{records_of, fits, fitted, counts}
-use Rattle.board_text.specs.Verdict.{Fault, opening, spots_in, end_in, verdict}
+use Rattle.board_text.specs.Passes.{board_in, after_opening, total_of}
+use Rattle.board_text.specs.Reading.{records_of, fitted, reading, counts}
+use Rattle.board_text.specs.Verdict.{Fault, opening, spots_in, end_in}
 use Rattle.board_text.specs.declared.refusals.TextRefusal.TheVariants.{NoRoom}
 use Rattle.board_text.proofs.Framed.{goes_on, went_on}
 use Rattle.board_text.proofs.Texts.{spots-count}
@@ -29,47 +30,60 @@ pub counted : (v : Result (List Spot) Fault) (n m : ℕ) → Ok (n, m) ≡ count
 counted (Ok b) n m e =
     let same : ◌≡◌ {A = ℕ × ℕ} (length b, length (all_moves b)) (n, m) = cc in
     record { good = refl; count = ap (λ (q : ℕ × ℕ). q.0) same; total = ap (λ (q : ℕ × ℕ). q.1) same }
-counted (Err f) n m e = let never : ◌≡◌ {A = ℕ} 0 1 = cc in absurd (omega arith)
+counted (Err f) n m e = cc
 
 -- and one with a fault
 pub faulted : (v : Result (List Spot) Fault) (f : Fault) → Err f ≡ counts v → v ≡ Err f
-faulted (Ok b) f e = let never : ◌≡◌ {A = ℕ} 0 1 = cc in absurd (omega arith)
-faulted (Err g) f e = let same : g ≡ f = cc in ap (λ (x : Fault). Err x) same
+faulted (Ok b) f e = cc
+faulted (Err g) f e = cc
 
 module _ (v : Result (List Spot) Fault) (good : is_ok v ≡ true) (records moves : ℕ) where
   -- slices that have room get the board
   pub fitted-well : length (board_in v) ≤ records → length (all_moves (board_in v)) ≤ moves → fitted v records moves ≡ Ok (board_in v)
-  fitted-well enough plenty =
-      ap (λ (x : Result (List Spot) Fault). fitted x records moves) (board_is v good)
-      ∙ cond-true (fits (board_in v) records moves) (Ok (board_in v)) (Err (NoRoom, 0))
-      (and_from (leb (length (board_in v)) records) (leb (length (all_moves (board_in v))) moves) (le-leb (length (board_in v)) records enough) (le-leb (length (all_moves (board_in v))) moves plenty))
+  fitted-well enough plenty = rw (board_is v good) (grind (arith, nat_tests))
 
   -- slices of which one is too short are refused
   pub fitted_short : (records < length (board_in v)) ⊎ (moves < length (all_moves (board_in v))) → fitted v records moves ≡ Err (NoRoom, 0)
-  fitted_short short =
-      ap (λ (x : Result (List Spot) Fault). fitted x records moves) (board_is v good)
-      ∙ cond-false (fits (board_in v) records moves) (Ok (board_in v)) (Err (NoRoom, 0))
-      (⊎_elim
-      (λ (few : records < length (board_in v)). and_left (leb (length (board_in v)) records) (leb (length (all_moves (board_in v))) moves) (lt-leb (length (board_in v)) records few))
-      (λ (few : moves < length (all_moves (board_in v))). and_right (leb (length (board_in v)) records) (leb (length (all_moves (board_in v))) moves) (lt-leb (length (all_moves (board_in v))) moves few))
-      short)
+  fitted_short short = rw (board_is v good) (grind (arith, nat_tests))
 
--- the positions after the first line are those of the board
-pub record Opened (t r : List ℕ) (n : ℕ) : Type 0 where
-  pub good : is_ok (spots_in n n 2 r) ≡ true
-  pub same : found (spots_in n n 2 r) ≡ board_in (verdict t)
-  pub count : length (board_in (verdict t)) ≡ n
-
-pub opened_good : (t r : List ℕ) (n : ℕ) → is_ok (verdict t) ≡ true → opening t ≡ Ok (n, r) → Opened t r n
-opened_good t r n good first =
-    let b = board_in (verdict t) in
-    let whole = sym (goes_on (opening t) _ (n, r) first) ∙ board_is (verdict t) good in
-    let spots = went_on (spots_in n n 2 r) _ b whole in
+-- what a board was judged from
+pub good_spots : (n : ℕ) (t : List ℕ) → is_ok (after_opening n t) ≡ true → (after : List ℕ) × (spots_in n n 2 t ≡ Ok (board_in (after_opening n t), after))
+good_spots n t good =
+    let b = board_in (after_opening n t) in
+    let spots = went_on (spots_in n n 2 t) _ b (board_is (after_opening n t) good) in
     let p = spots.0 in
     let ends = went_on (end_in (length (all_moves p.0)) (n + 2) p.1) _ b spots.2 in
     let same : p.0 ≡ b = cc ends.2 in
-    record {
-      good = ap (λ (x : Result (List Spot × List ℕ) Fault). is_ok x) spots.1;
-      same = ap found spots.1 ∙ same;
-      count = sym (ap length same) ∙ spots-count n n 2 r p spots.1;
-    }
+    (p.1, spots.1 ∙ ap (λ (x : List Spot). Ok (x, p.1)) same)
+
+-- its positions are as many as the first line says
+pub good_count : (n : ℕ) (t : List ℕ) → is_ok (after_opening n t) ≡ true → length (board_in (after_opening n t)) ≡ n
+good_count n t good = let spots = good_spots n t good in spots-count n n 2 t (board_in (after_opening n t), spots.0) spots.1
+
+-- a text that has moves after its first line is a board
+totalled : (v : Result (List Spot) Fault) (m : ℕ) → Ok m ≡ total_of v → (is_ok v ≡ true) × (length (all_moves (board_in v)) ≡ m)
+totalled (Ok b) m e = (refl, cc)
+totalled (Err f) m e = cc
+
+-- what the survey says of it
+pub surveyed : (n m : ℕ) (t : List ℕ) → Ok m ≡ total_of (after_opening n t) → Counted (after_opening n t) n m
+surveyed n m t e =
+    let all = totalled (after_opening n t) m e in
+    record { good = all.0; count = good_count n t all.0; total = all.1 }
+
+-- what reading gives, once the first line gave n positions and the survey m moves
+module _ (t : List ℕ) {r : List ℕ} {n m : ℕ} (opened : opening t ≡ Ok (n, r)) (total : Ok m ≡ total_of (after_opening n r)) (records moves : ℕ) where
+  judged : (v : Result (List Spot) Fault) → fitted (after_opening n r) records moves ≡ v → reading t records moves ≡ v
+  judged v e = ap (λ (x : Result (List Spot) Fault). fitted x records moves) (goes_on (opening t) _ (n, r) opened) ∙ e
+
+  pub reading_well : n ≤ records → m ≤ moves → reading t records moves ≡ Ok (board_in (after_opening n r))
+  reading_well enough plenty =
+      let found = surveyed n m r total in
+      let count = found.count in
+      let all = found.total in
+      judged _ (fitted-well (after_opening n r) found.good records moves (omega arith) (omega arith))
+
+  pub reading_short : (records < n) ⊎ (moves < m) → reading t records moves ≡ Err (NoRoom, 0)
+  reading_short short =
+      let found = surveyed n m r total in
+      judged _ (fitted_short (after_opening n r) found.good records moves (rw (found.count, found.total) short))

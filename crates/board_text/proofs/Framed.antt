@@ -1,7 +1,7 @@
 -- Lines: what a frame with its LF is read as, and what was read as a frame.
-use Rattle.std.proofs.Common.{◌≡◌, ℕ, zero, suc, ◌+◌, ◌<◌, ◌≤◌, Bool, true, false, cond, eqb, ltb, List, [], ◌∷◌, ◌++◌, length, take, drop, Ok, Err, Result, sym, refl, ap, ◌∙◌, subst, add-one, arith}
+use Rattle.std.proofs.Common.{◌≡◌, ℕ, zero, suc, ◌+◌, ◌<◌, ◌≤◌, Bool, true, false, not, cond, eqb, ltb, List, [], ◌∷◌, ◌++◌, length, take, drop, Ok, Err, Result, sym, refl, ap, ◌∙◌, subst, add-one, arith}
 use Rattle.std.proofs.lemmas.List.{length-append, take_at, drop_at, drop-drop}
-use Rattle.std.proofs.lemmas.Bool.{and_parts, cond-true, cond-false, ltb-true, lt-ltb}
+use Rattle.std.proofs.lemmas.Bool.{and_parts, cond-true, ltb-true, lt-ltb}
 use Rattle.std.proofs.lemmas.Bool.Decides.{nat_tests}
 use Rattle.board_text.specs.Digits.{is_digit, all_digits}
 use Rattle.board_text.specs.Verdict.{Fault, and_then, line_end, is_frame, next_line}
@@ -17,12 +17,12 @@ stops r f e h = ap (λ (x : Result _ Fault). and_then x f) h
 -- where all was well, the first step was and so was what came next
 pub went_on : {A B : Type 0} (r : Result A Fault) (f : A → Result B Fault) (b : B) → and_then r f ≡ Ok b → (a : A) × (r ≡ Ok a) × (f a ≡ Ok b)
 went_on (Ok a) f b h = (a, refl, h)
-went_on (Err e) f b h = let z : ◌≡◌ {A = ℕ} 0 1 = cc in absurd (omega arith)
+went_on (Err e) f b h = cc
 
 -- where a test with a fault was passed, it holds
 pub passed : {A : Type 0} (t : Bool) (r : Result A Fault) (e : Fault) (a : A) → cond t r (Err e) ≡ Ok a → (t ≡ true) × (r ≡ Ok a)
 passed true r e a h = (refl, h)
-passed false r e a h = let z : ◌≡◌ {A = ℕ} 0 1 = cc in absurd (omega arith)
+passed false r e a h = cc
 
 -- a digit is no LF
 not_lf : (c : ℕ) → is_digit c ≡ true → eqb c 10 ≡ false
@@ -33,7 +33,8 @@ line_end-at : (l r : List ℕ) → all_digits l ≡ true → line_end (l ++ 10 �
 line_end-at [] r h = refl
 line_end-at (c ∷ cs) r h =
     let p = and_parts (is_digit c) (all_digits cs) h in
-    cond-false (eqb c 10) 0 (suc (line_end (cs ++ 10 ∷ r))) (not_lf c p.0) ∙ ap suc (line_end-at cs r p.1)
+    let more = line_end-at cs r p.1 in
+    cond-true (not (eqb c 10)) (1 + line_end (cs ++ 10 ∷ r)) 0 (ap not (not_lf c p.0)) ∙ omega arith
 
 -- a frame with its LF is read as that frame
 pub frame_read : (line : ℕ) (l r : List ℕ) → is_frame l ≡ true → next_line line (l ++ 10 ∷ r) ≡ Ok (l, r)

@@ -5,13 +5,12 @@ pub mod Formats
 pub mod Fours
 pub mod Framed
 pub mod Hex
-pub mod Judged
 pub mod Lengths
-pub mod Numbered
 pub mod Outcomes
+pub mod Pens
 pub mod Puts
+pub mod Rises
 pub mod Spots
-pub mod Steps
 pub mod Surveyed
 pub mod Tables
 pub mod Texts

@@ -1,6 +1,7 @@
 -- The lines of positions: each is read as its position, and what was read as a position is its line.
 use Rattle.std.proofs.Common.{◌≡◌, ℕ, zero, suc, ◌+◌, ◌-◌, ◌%◌, ◌<◌, ◌≤◌, true, ◌&&◌, eqb, ltb, leb, List, [], ◌∷◌, ◌++◌, length, get_or, Ok, sym, refl, ap, ◌∙◌, subst, append_assoc, arith}
-use Rattle.std.proofs.lemmas.Bool.{and_parts, and_from, leb-true, ltb-true, eqb-true, le-leb, lt-ltb, eq-eqb, cond-true}
+use Rattle.std.proofs.lemmas.Bool.{and_parts, and_from, leb-true, ltb-true, eqb-true, eq-eqb, cond-true}
+use Rattle.std.proofs.lemmas.Bool.Decides.{nat_tests}
 use Rattle.board.specs.Spot.{Spot, spot_at}
 use Rattle.board.specs.Fair.{FairSpot}
 use Rattle.board.specs.Fairness.{rising-within, rising-ascends}
@@ -54,15 +55,15 @@ spot_formed : (n : ℕ) (s : Spot) → FairSpot n s → is_spot_line (spot_digit
 spot_formed n s f =
     let few = f.few in
     let long = hex4s-length s.moves in
-    and_from (leb 6 (length (spot_digits s))) _ (le-leb 6 (length (spot_digits s)) (omega arith))
-    (and_from (leb (length (spot_digits s)) 70) _ (le-leb (length (spot_digits s)) 70 (omega arith))
-    (eq-eqb ((length (spot_digits s) - 6) % 4) 0 (omega arith)))
+    grind (arith, nat_tests)
 
 -- a fair position passes
 spot_passes : (n line : ℕ) (s : Spot) → FairSpot n s → spot_by n line s ≡ Ok s
 spot_passes n line s f =
-    cond-true (ltb s.side 2 && ltb s.label 16) _ _ (and_from _ _ (lt-ltb s.side 2 f.side_known) (lt-ltb s.label 16 f.label_known))
-    ∙ cond-true (rising n 0 s.moves) _ _ (fair-rises n s f)
+    let side = f.side_known in
+    let label = f.label_known in
+    let up = fair-rises n s f in
+    grind (arith, nat_tests)
 
 -- the line of a fair position is read as that position
 spot_read : (n line : ℕ) (s : Spot) → n ≤ 512 → FairSpot n s → spot_in n line (spot_digits s) ≡ Ok s

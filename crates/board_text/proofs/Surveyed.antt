@@ -1,5 +1,5 @@
 -- The positions of a text, surveyed line by line.
-use Rattle.std.proofs.Common.{◌≡◌, ℕ, suc, ◌+◌, ◌-◌, ◌*◌, ◌<◌, ◌≤◌, List, ◌∷◌, ◌++◌, length, Ok, Err, Result, sym, refl, ap, ◌∙◌, arith}
+use Rattle.std.proofs.Common.{◌≡◌, ℕ, suc, ◌+◌, ◌-◌, ◌*◌, ◌<◌, ◌≤◌, List, ◌∷◌, ◌++◌, length, Ok, Err, Result, sym, refl, ap, ◌∙◌, subst, arith}
 use Rattle.std.proofs.lemmas.List.{length-append}
 use Rattle.std.specs.Result.{result_map_both}
 use Rattle.board.specs.Spot.{Spot, all_moves}
@@ -14,12 +14,12 @@ moves_given r = result_map_both (λ s. length s.moves) (λ e. e) r
 -- a line that gives its moves gives a position
 pub spot_given : (r : Result Spot Fault) (m : ℕ) → Ok m ≡ moves_given r → (s : Spot) × (r ≡ Ok s) × (m ≡ length s.moves)
 spot_given (Ok s) m e = (s, refl, cc)
-spot_given (Err e') m e = let never : ◌≡◌ {A = ℕ} 0 1 = cc in absurd (omega arith)
+spot_given (Err e') m e = cc
 
 -- a line that is refused gives none
 pub spot_refused : (r : Result Spot Fault) (f : Fault) → Err f ≡ moves_given r → r ≡ Err f
-spot_refused (Ok s) f e = let never : ◌≡◌ {A = ℕ} 0 1 = cc in absurd (omega arith)
-spot_refused (Err e') f e = let same : e' ≡ f = cc in ap (λ (x : Fault). Err x) same
+spot_refused (Ok s) f e = cc
+spot_refused (Err e') f e = cc
 
 -- a position in front adds its moves
 tallied-more : (total : ℕ) (s : Spot) (r : Result (List Spot × List ℕ) Fault) → tallied total (and_then r (λ p. Ok (s ∷ p.0, p.1))) ≡ tallied (total + length s.moves) r
@@ -40,11 +40,7 @@ module _ (n k line total : ℕ) (t : List ℕ) where
       ∙ tallied-more total s.0 left
       ∙ ap (λ (x : ℕ). tallied (total + x) left) (sym s.2)
 
-  -- a line that is not there, or no frame, ends it
-  pub tally-no-line : (f : Fault) → next_line line t ≡ Err f → tallied total (spots_in n (suc k) line t) ≡ Err f
-  tally-no-line f h = ap (tallied total) (stops (next_line line t) _ f h)
-
-  -- and so does a line that gives no position
+  -- a line that gives no position ends it
   pub tally-no-spot : (l r : List ℕ) (f : Fault) → next_line line t ≡ Ok (l, r) → Err f ≡ moves_given (spot_in n line l) → tallied total (spots_in n (suc k) line t) ≡ Err f
   tally-no-spot l r f h g =
       ap (tallied total) (goes_on (next_line line t) _ (l, r) h ∙ stops (spot_in n line l) _ f (spot_refused (spot_in n line l) f g))
@@ -55,7 +51,7 @@ pub record Sofar (n i total taken : ℕ) (left : List ℕ) (whole : Result (ℕ 
   pub line : taken ≡ i + 1
   pub few : total ≤ 16 * i
 
-module _ (n i total taken : ℕ) (left : List ℕ) (whole : Result (ℕ × List ℕ) Fault) (lt : i < n) (so : Sofar n i total taken left whole) where
+module _ {n i total taken : ℕ} {left : List ℕ} {whole : Result (ℕ × List ℕ) Fault} (lt : i < n) (so : Sofar n i total taken left whole) where
   -- one position is next, on the line after those taken
   at_next : tallied total (spots_in n (suc (n - (i + 1))) (taken + 1) left) ≡ whole
   at_next =
@@ -65,21 +61,20 @@ module _ (n i total taken : ℕ) (left : List ℕ) (whole : Result (ℕ × List 
       ap (λ (k : ℕ). tallied total (spots_in n k (taken + 1) left)) one ∙ ap (λ (k : ℕ). tallied total (spots_in n (n - i) k left)) two ∙ so.rest
 
   -- a good line leads one position on
-  pub sofar-more : (l r : List ℕ) (m taken' : ℕ) → next_line (taken + 1) left ≡ Ok (l, r) → Ok m ≡ moves_given (spot_in n (taken + 1) l) → m ≤ 16 → taken' ≡ taken + 1 → Sofar n (i + 1) (total + m) taken' r whole
-  sofar-more l r m taken' h g small after =
+  pub sofar-more : {l r : List ℕ} {number m after : ℕ} → next_line (taken + 1) left ≡ Ok (l, r) → number ≡ taken + 1 → Ok m ≡ moves_given (spot_in n number l) → m ≤ 16 → after ≡ taken + 1 → Sofar n (i + 1) (total + m) after r whole
+  sofar-more {l} {r} {number} {m} {after} h is g small next =
+      let given = subst (λ (k : ℕ). Ok m ≡ moves_given (spot_in n k l)) is g in
       let line = so.line in
       let few = so.few in
       let two : i + 1 + 2 ≡ taken + 1 + 1 = omega arith in
       record {
-        rest = ap (λ (k : ℕ). tallied (total + m) (spots_in n (n - (i + 1)) k r)) two ∙ sym (tally-step n (n - (i + 1)) (taken + 1) total left l r m h g) ∙ at_next;
+        rest = ap (λ (k : ℕ). tallied (total + m) (spots_in n (n - (i + 1)) k r)) two ∙ sym (tally-step n (n - (i + 1)) (taken + 1) total left l r m h given) ∙ at_next;
         line = omega arith;
         few = omega arith;
       }
 
-  -- a line that is not there, or no frame, is the fault of the whole
-  pub sofar-no-line : (f : Fault) → next_line (taken + 1) left ≡ Err f → whole ≡ Err f
-  sofar-no-line f h = sym at_next ∙ tally-no-line n (n - (i + 1)) (taken + 1) total left f h
-
-  -- and so is a line that gives no position
-  pub sofar-no-spot : (l r : List ℕ) (f : Fault) → next_line (taken + 1) left ≡ Ok (l, r) → Err f ≡ moves_given (spot_in n (taken + 1) l) → whole ≡ Err f
-  sofar-no-spot l r f h g = sym at_next ∙ tally-no-spot n (n - (i + 1)) (taken + 1) total left l r f h g
+  -- a line that gives no position is the fault of the whole
+  pub sofar-no-spot : {l r : List ℕ} {number : ℕ} {f : Fault} → next_line (taken + 1) left ≡ Ok (l, r) → number ≡ taken + 1 → Err f ≡ moves_given (spot_in n number l) → whole ≡ Err f
+  sofar-no-spot {l} {r} {number} {f} h is g =
+      let given = subst (λ (k : ℕ). Err f ≡ moves_given (spot_in n k l)) is g in
+      sym at_next ∙ tally-no-spot n (n - (i + 1)) (taken + 1) total left l r f h given

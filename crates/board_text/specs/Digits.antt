@@ -1,5 +1,6 @@
 -- Digits 0 to 9 and A to F, and the numbers that two or four of them write.
-use Rattle.std.specs.Prelude.{ℕ, ◌+◌, ◌-◌, ◌*◌, ◌/◌, ◌%◌, Bool, true, cond, ◌&&◌, ◌||◌, List, [], ◌∷◌, ◌++◌, nat_le, nat_lt}
+use Rattle.std.specs.Prelude.{ℕ, ◌+◌, ◌-◌, ◌*◌, ◌/◌, ◌%◌, Bool, cond, ◌&&◌, ◌||◌, List, [], ◌∷◌, ◌++◌, nat_le, nat_lt}
+use Rattle.std.specs.List.{flat_map, list_all}
 
 -- the byte is one of the digits 0 to 9, which are the bytes 48 to 57
 abbrev pub is_decimal : ℕ → Bool
@@ -39,8 +40,7 @@ hex4 n = hex2 (n / 256) ++ hex2 (n % 256)
 
 -- every byte of the list is a digit
 abbrev pub all_digits : List ℕ → Bool
-all_digits [] = true
-all_digits (c ∷ cs) = is_digit c && all_digits cs
+all_digits cs = list_all is_digit cs
 
 -- the numbers that a list of digits writes, four digits each
 abbrev pub fours : List ℕ → List ℕ
@@ -52,5 +52,4 @@ fours (a ∷ b ∷ c ∷ d ∷ rest) = four a b c d ∷ fours rest
 
 -- numbers written in four digits each
 abbrev pub hex4s : List ℕ → List ℕ
-hex4s [] = []
-hex4s (n ∷ ns) = hex4 n ++ hex4s ns
+hex4s ns = flat_map hex4 ns

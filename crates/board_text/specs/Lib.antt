@@ -1,10 +1,13 @@
 pub mod Refusals
 pub mod Digits
+pub mod Kinds
 pub mod Put
 pub mod Text
 pub mod Verdict
+pub mod SpotLines
 pub mod Reading
 pub mod Passes
+pub mod Pens
 pub mod Writing
 pub mod Laws
 pub mod Formatting

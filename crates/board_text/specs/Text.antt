@@ -1,5 +1,6 @@
 -- The one text of a board.
 use Rattle.std.specs.Prelude.{ℕ, List, [], ◌∷◌, ◌++◌, length}
+use Rattle.std.specs.List.{flat_map}
 use Rattle.board.specs.Spot.{Spot, all_moves}
 use Rattle.board_text.specs.Digits.{hex2, hex4, hex4s}
 
@@ -13,8 +14,7 @@ spot_line s = hex2 2 ++ (hex2 s.side ++ (hex2 s.label ++ (hex4s s.moves ++ 10 �
 
 -- the lines of all positions, in their order
 abbrev pub spot_lines : List Spot → List ℕ
-spot_lines [] = []
-spot_lines (s ∷ b) = spot_line s ++ spot_lines b
+spot_lines b = flat_map spot_line b
 
 -- the last line: 03, and four digits for how many moves there are in all
 abbrev pub last_line : List Spot → List ℕ

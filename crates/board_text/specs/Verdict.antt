@@ -1,5 +1,6 @@
 -- What a text is judged to be: the first fault with its line, or the board.
 use Rattle.std.specs.Prelude.{ℕ, zero, suc, ◌+◌, ◌-◌, ◌%◌, Bool, cond, ◌&&◌, List, [], ◌∷◌, length, take, drop, Ok, Err, Result, ◌==◌, nat_le, nat_lt, slice_index}
+use Rattle.std.specs.List.{position_or_len}
 use Rattle.board.specs.Spot.{Spot, all_moves}
 use Rattle.board.specs.Rising.{rising}
 use Rattle.board_text.specs.Digits.{two, four, fours, all_digits}
@@ -17,8 +18,7 @@ and_then (Err e) f = Err e
 
 -- how many bytes stand before the first LF, byte 10; all of them where there is none
 abbrev pub line_end : List ℕ → ℕ
-line_end [] = 0
-line_end (c ∷ cs) = cond (c == 10) 0 (suc (line_end cs))
+line_end t = position_or_len (λ c. c == 10) t
 
 -- a line is a frame: digits, in an even number
 abbrev pub is_frame : List ℕ → Bool

@@ -5,12 +5,17 @@ ghost use Rattle.board_text.specs.Refusals.{number_of};
 ghost use Rattle.board_text.specs.Text.{text_of};
 ghost use Rattle.board_text.specs.Verdict.{verdict};
 
-use crate::digits::digit_of;
+use crate::digits::{hex2, hex4};
 use crate::reader::read;
 use crate::refusals::TextRefusal;
 use crate::writer::write;
-use board::{Board, MOST_MOVES, MOST_POSITIONS, Record, Summary, Table, summarise};
+use board::{Board, MOST_MOVES, MOST_POSITIONS, Record, Refusal, Summary, Table, summarise};
 use std::alloc::{AllocError, Global};
+
+// The most records and the most moves that a board can have. (A constant cannot call `usize::from`.)
+const MOST_RECORDS: usize = MOST_POSITIONS as usize;
+
+const MOST_MOVES_IN_ALL: usize = MOST_RECORDS * MOST_MOVES as usize;
 
 // The longest text that a board can have: 512 positions with 16 moves each.
 const LONGEST_TEXT: usize = 36_366;
@@ -19,19 +24,9 @@ const LONGEST_TEXT: usize = 36_366;
 pub fn refusal_line(number: u8, line: u16) -> [u8; 9]
     ensures { result ≡ refusal_line number line }
 {
-    let high = (line / 256) as u8;
-    let low = (line % 256) as u8;
-    [
-        b'1',
-        b'F',
-        digit_of(number / 16),
-        digit_of(number % 16),
-        digit_of(high / 16),
-        digit_of(high % 16),
-        digit_of(low / 16),
-        digit_of(low % 16),
-        b'\n',
-    ]
+    let [high, low] = hex2(number);
+    let [a, b, c, d] = hex4(line);
+    [b'1', b'F', high, low, a, b, c, d, b'\n']
 }
 
 // The board's text, in memory of its own. It fails only for want of memory.
@@ -40,7 +35,7 @@ pub fn text_of<B: Board>(heap: Global, board: &B) -> Result<Vec<u8>, AllocError>
 {
     let mut text = vec![in heap; 0u8; LONGEST_TEXT]?;
     // No text is longer, so this is not refused.
-    let length = write(board, text.as_mut_slice()).unwrap_or(0);
+    let length = write(board, text.as_mut_slice()).unwrap();
     text.truncate(length);
     Ok(text)
 }
@@ -54,38 +49,23 @@ pub struct Formatted {
     pub outcome: Result<Summary, (TextRefusal, u16)>,
 }
 
-// A board, written and told.
-fn accepted<B: Board>(heap: Global, board: &B) -> Result<Formatted, AllocError>
-    ensures { IfOk result (λ f. (f.text.items ≡ text_of (B.Board.meaning board.now)) × (f.outcome ≡ Ok (summary_of (B.Board.meaning board.now)))) }
-{
-    let text = text_of(heap, board)?;
-    let outcome = Ok(summarise(board));
-    Ok(Formatted { text, outcome })
-}
+impl Formatted {
+    // A board, written and told.
+    fn of_board<B: Board>(heap: Global, board: &B) -> Result<Formatted, AllocError>
+        ensures { IfOk result (λ f. (f.text.items ≡ text_of (B.Board.meaning board.now)) × (f.outcome ≡ Ok (summary_of (B.Board.meaning board.now)))) }
+    {
+        let text = text_of(heap, board)?;
+        let outcome = Ok(summarise(board));
+        Ok(Formatted { text, outcome })
+    }
 
-// A refusal, written and told.
-fn refused(heap: Global, refusal: TextRefusal, line: u16) -> Result<Formatted, AllocError>
-    ensures { IfOk result (λ f. (f.text.items ≡ refusal_line (number_of refusal) line) × (f.outcome ≡ Err (refusal, line))) }
-{
-    let text = Vec::from_slice(heap, &refusal_line(refusal.number(), line))?;
-    let outcome = Err((refusal, line));
-    Ok(Formatted { text, outcome })
-}
-
-// The same as `reformat`, by way of slices that every board fits into.
-fn reformat_over(
-    heap: Global,
-    input: &[u8],
-    records: &mut [Record],
-    moves: &mut [u16],
-) -> Result<Formatted, AllocError>
-    requires records { length records.old ≡ 512 }
-    requires moves { length moves.old ≡ 8192 }
-    ensures { IfOk result (λ f. (f.text.items ≡ formatted (verdict input.now)) × (f.outcome ≡ told (verdict input.now))) }
-{
-    match read(input, records, moves) {
-        Ok((count, _)) => accepted(heap, &Table::new(&records[0..count], moves)),
-        Err((refusal, line)) => refused(heap, refusal, line),
+    // A refusal, written and told.
+    fn of_refusal(heap: Global, refusal: TextRefusal, line: u16) -> Result<Formatted, AllocError>
+        ensures { IfOk result (λ f. (f.text.items ≡ refusal_line (number_of refusal) line) × (f.outcome ≡ Err (refusal, line))) }
+    {
+        let text = Vec::from_slice(heap, &refusal_line(refusal.number(), line))?;
+        let outcome = Err((refusal, line));
+        Ok(Formatted { text, outcome })
     }
 }
 
@@ -94,7 +74,10 @@ fn reformat_over(
 pub fn reformat(heap: Global, input: &[u8]) -> Result<Formatted, AllocError>
     ensures { IfOk result (λ f. (f.text.items ≡ formatted (verdict input.now)) × (f.outcome ≡ told (verdict input.now))) }
 {
-    let mut records = vec![in heap; Record::BLANK; MOST_POSITIONS as usize]?;
-    let mut moves = vec![in heap; 0u16; MOST_POSITIONS as usize * MOST_MOVES as usize]?;
-    reformat_over(heap, input, records.as_mut_slice(), moves.as_mut_slice())
+    let mut records = vec![in heap; Record::BLANK; MOST_RECORDS]?;
+    let mut moves = vec![in heap; 0u16; MOST_MOVES_IN_ALL]?;
+    match read(input, &mut records, &mut moves) {
+        Ok((count, _)) => Formatted::of_board(heap, &Table::new(&records[..count], &moves)),
+        Err((refusal, line)) => Formatted::of_refusal(heap, refusal, line),
+    }
 }

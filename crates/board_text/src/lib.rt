@@ -4,13 +4,18 @@
 mod digits;
 mod fill;
 mod format;
+mod kinds;
+mod line;
 mod lines;
-mod parts;
+mod opened;
+mod pen;
 mod reader;
 mod refusals;
+mod spot_line;
 mod survey;
 mod writer;
 
+pub use board::Refusal;
 pub use format::{Formatted, reformat, refusal_line, text_of};
 pub use reader::read;
 pub use refusals::{TextRefusal, WriteRefusal};

@@ -2,9 +2,8 @@ ghost use Rattle.std.specs.Prelude.{◌≡◌, length};
 ghost use Rattle.board_text.specs.Laws.{JudgedExactly};
 ghost use Rattle.board_text.specs.Reading.{reading, counts, records_after, moves_after};
 
-use crate::fill::fill;
+use crate::opened::Opened;
 use crate::refusals::TextRefusal;
-use crate::survey::survey;
 use board::Record;
 
 // Reads a board text into the front of the two slices, and answers how many records and how many
@@ -20,12 +19,12 @@ pub fn read(
     ensures moves { moves.new ≡ moves_after (reading text.now (length records.old) (length moves.old)) moves.old }
     ensures exact { JudgedExactly text.now }
 {
-    let (count, total) = survey(text)?;
-    let count = count as usize;
-    let total = total as usize;
+    let opened = Opened::new(text)?;
+    let count = usize::from(opened.count);
+    let total = usize::from(opened.survey()?);
     if records.len() < count || moves.len() < total {
         return Err((TextRefusal::NoRoom, 0));
     }
-    fill(text, records, moves)?;
+    opened.fill(records, moves);
     Ok((count, total))
 }

@@ -1,6 +1,7 @@
-ghost use Rattle.std.specs.Prelude.{◌≡◌};
+ghost use Rattle.std.proofs.Common.{rules};
 ghost use Rattle.board_text.specs.Refusals.{number_of, write_number_of};
 
+use board::Refusal;
 use std::fmt;
 
 // Why a text was refused, in the order in which a line is checked.
@@ -24,11 +25,12 @@ pub enum TextRefusal {
     NoRoom = 18,
 }
 
-impl TextRefusal {
-    // The number by which the refusal is known outside.
-    pub fn number(&self) -> u8
-        ensures { result ≡ number_of self.now }
-    {
+impl Refusal for TextRefusal {
+    ghost known_as = { number_of };
+
+    ghost above_0 = { Prim.search rules };
+
+    fn number(&self) -> u8 {
         *self as u8
     }
 }
@@ -56,13 +58,12 @@ pub enum WriteRefusal {
     TooShort = 19,
 }
 
-impl WriteRefusal {
-    // The number by which the refusal is known outside.
-    pub fn number(&self) -> u8
-        ensures { result ≡ write_number_of self.now }
-    {
-        match self {
-            WriteRefusal::TooShort => 19,
-        }
+impl Refusal for WriteRefusal {
+    ghost known_as = { write_number_of };
+
+    ghost above_0 = { Prim.search rules };
+
+    fn number(&self) -> u8 {
+        *self as u8
     }
 }

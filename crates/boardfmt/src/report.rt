@@ -1,4 +1,4 @@
-use board::Summary;
+use board::{Refusal, Summary};
 use board_text::TextRefusal;
 use std::fmt;
 
@@ -21,16 +21,13 @@ fn write_labels<W: fmt::Write>(labels: &[u16; 16], f: &mut fmt::Formatter<W>) ->
 
 impl fmt::Display for Report {
     fn fmt<W: fmt::Write>(&self, f: &mut fmt::Formatter<W>) -> fmt::Result {
-        let bytes = self.bytes;
-        write!(f, "{bytes} bytes read; ")?;
+        write!(f, "{} bytes read; ", self.bytes)?;
         match &self.outcome {
             Ok(summary) => {
-                let controller = summary.controller;
-                let kiln = summary.kiln;
-                let moves = summary.moves;
                 write!(
                     f,
-                    "a board with {controller} controller and {kiln} kiln positions, {moves} moves; labels met, with the positions that bear them:"
+                    "a board with {} controller and {} kiln positions, {} moves; labels met, with the positions that bear them:",
+                    summary.controller, summary.kiln, summary.moves
                 )?;
                 write_labels(&summary.labels, f)
             }

@@ -1,7 +1,7 @@
 ghost use Rattle.std.specs.Prelude.{◌≡◌, IfOk, codes, Decides};
 ghost use Rattle.boardgen.specs.Generated.{PrintedFor, WrittenOr0, pool_printed};
 
-use board::Pool;
+use board::{Pool, Refusal};
 use board_text::{refusal_line, text_of};
 use std::alloc::{AllocError, Global};
 

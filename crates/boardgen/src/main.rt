@@ -18,11 +18,7 @@ fn asked(rt: &HostRuntime) -> anyhow::Result<Option<String>> {
     let (Some(kind), Some(count), None) = (words.next(), words.next(), words.next()) else {
         return Ok(None);
     };
-    if names_pool(kind.as_str()) {
-        Ok(Some(count))
-    } else {
-        Ok(None)
-    }
+    Ok(names_pool(kind.as_str()).then_some(count))
 }
 
 fn print(rt: &HostRuntime, word: &str) -> anyhow::Result<()> {
@@ -32,14 +28,10 @@ fn print(rt: &HostRuntime, word: &str) -> anyhow::Result<()> {
 }
 
 fn main(rt: HostRuntime) -> anyhow::Result<ExitCode> {
-    match asked(&rt)? {
-        Some(word) => {
-            print(&rt, word.as_str())?;
-            Ok(ExitCode::SUCCESS)
-        }
-        None => {
-            eprintln!(rt; "{USAGE}")?;
-            Ok(ExitCode::FAILURE)
-        }
-    }
+    let Some(word) = asked(&rt)? else {
+        eprintln!(rt; "{USAGE}")?;
+        return Ok(ExitCode::FAILURE);
+    };
+    print(&rt, word.as_str())?;
+    Ok(ExitCode::SUCCESS)
 }

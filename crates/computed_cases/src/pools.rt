@@ -1,5 +1,6 @@
 // Pool boards: the smallest against a table written out by hand, all of them against the rules.
-use board::{Board, Pool, PoolRefusal, Record, Table};
+use crate::checks::{number_of, spot};
+use board::{Board, Pool, PoolRefusal, Record, Refusal, Side, Table};
 use std::alloc::{AllocError, Global};
 use std::process::Abort;
 use std::test::Fail;
@@ -21,25 +22,8 @@ const SMALLEST: [(u8, u8, u16, u16); 8] = [
 // The moves of position 0, then of 1, and so on.
 const SMALLEST_MOVES: [u16; 14] = [1, 3, 5, 0, 3, 7, 0, 2, 5, 7, 0, 4, 6, 7];
 
-// The refusal's number, 0 where the pool is made.
-fn pool_answer(buffers: u8) -> u8 {
-    match Pool::new(buffers) {
-        Ok(_) => 0,
-        Err(refusal) => refusal.number(),
-    }
-}
-
 fn made(buffers: u8) -> Result<Pool, Fail> {
     Ok(Pool::new(buffers)?)
-}
-
-// Side, label and number of moves.
-fn spot<B: Board>(board: &B, position: u16) -> (u8, u8, u8) {
-    (
-        board.side(position),
-        board.label(position),
-        board.moves(position),
-    )
 }
 
 // The moves at these places are alike.
@@ -91,7 +75,7 @@ fn the_smallest_pool_is_the_table_written_out(rt: HostRuntime) -> Result<(), Fai
 struct Held {
     first: u8,
     second: u8,
-    side: u8,
+    side: Side,
 }
 
 impl Held {
@@ -116,10 +100,9 @@ impl Held {
         if self.clashes() {
             return first_kept && second_kept && self.side == to.side;
         }
-        let (first_changes, second_changes) = if self.side == 0 {
-            (self.first == 0, self.second == 0)
-        } else {
-            (to.first == 0, to.second == 0)
+        let (first_changes, second_changes) = match self.side {
+            Side::Controller => (self.first == 0, self.second == 0),
+            Side::Kiln => (to.first == 0, to.second == 0),
         };
         self.side != to.side
             && (first_kept && (second_kept || second_changes) || second_kept && first_changes)
@@ -131,7 +114,7 @@ fn all_held(heap: Global, buffers: u8) -> Result<Vec<Held>, AllocError> {
     let mut all = Vec::new(heap);
     for first in 0..=buffers {
         for second in 0..=buffers {
-            for side in 0..2u8 {
+            for side in [Side::Controller, Side::Kiln] {
                 all.push(Held {
                     first,
                     second,
@@ -144,26 +127,33 @@ fn all_held(heap: Global, buffers: u8) -> Result<Vec<Held>, AllocError> {
 }
 
 // The pool answers at the position as the rules say.
-fn check_held(rt: &impl Abort, pool: &Pool, all: &[Held], position: u16, held: Held) {
-    let buffers = pool.buffers();
-    let mut place = 0u8;
-    for (number, to) in all.iter().enumerate() {
-        if held.leads(*to) {
-            let answer = usize::from(pool.move_at(position, place));
-            assert_eq!(rt;
-                answer,
-                number,
-                "move {place} of {position}, {buffers} buffers"
-            );
-            place = place.wrapping_add(1);
-        }
+fn check_held(
+    rt: &impl Abort,
+    heap: Global,
+    pool: &Pool,
+    all: &[Held],
+    position: u16,
+    held: Held,
+) -> Result<(), Fail> {
+    let what = format_args!("{position} of {} buffers", pool.buffers());
+    let to = all
+        .iter()
+        .enumerate()
+        .filter(|(_, to)| held.leads(**to))
+        .map(|(number, _)| number)
+        .collect::<Vec<usize>>(heap)?;
+    for (place, number) in (0..=255u8).zip(to.iter()) {
+        let answer = usize::from(pool.move_at(position, place));
+        assert_eq!(rt; answer, *number, "move {place}, {what}");
     }
+    let moves = u8::try_from(to.len())?;
     assert_eq!(rt;
         spot(pool, position),
-        (held.side, held.label(), place),
-        "position {position}, {buffers} buffers"
+        (held.side as u8, held.label(), moves),
+        "{what}"
     );
-    assert_eq!(rt; pool.move_at(position, place), 0, "{buffers} buffers");
+    assert_eq!(rt; pool.move_at(position, moves), 0, "{what}");
+    Ok(())
 }
 
 // The pool with so many buffers is the board of the rules.
@@ -173,7 +163,8 @@ fn check_pool(rt: &impl Abort, heap: Global, buffers: u8) -> Result<(), Fail> {
     let all = all_held(heap, buffers)?;
     assert_eq!(rt; usize::from(pool.count()), all.len(), "{buffers} buffers");
     for (number, held) in all.iter().enumerate() {
-        check_held(rt, &pool, all.as_slice(), u16::try_from(number)?, *held);
+        let position = u16::try_from(number)?;
+        check_held(rt, heap, &pool, all.as_slice(), position, *held)?;
     }
     Ok(())
 }
@@ -220,10 +211,10 @@ fn a_missing_position_or_place_answers_0(rt: HostRuntime) -> Result<(), Fail> {
 #[test]
 fn a_pool_has_1_to_7_buffers(rt: HostRuntime) {
     for buffers in 1..=7u8 {
-        assert_eq!(rt; pool_answer(buffers), 0, "{buffers} buffers");
+        assert_eq!(rt; number_of(Pool::new(buffers)), 0, "{buffers} buffers");
     }
-    assert_eq!(rt; pool_answer(0), 26);
-    assert_eq!(rt; pool_answer(8), 26);
-    assert_eq!(rt; pool_answer(255), 26);
+    assert_eq!(rt; number_of(Pool::new(0)), 26);
+    assert_eq!(rt; number_of(Pool::new(8)), 26);
+    assert_eq!(rt; number_of(Pool::new(255)), 26);
     assert_eq!(rt; PoolRefusal::BadBuffers.number(), 26);
 }

@@ -1,5 +1,6 @@
 // Watchers, what they refuse, and boards under them, each worked out by hand.
-use board::{Board, Record, Table};
+use crate::checks::{number_of, spot};
+use board::{Board, Record, Refusal, Table};
 use std::alloc::Global;
 use std::fmt::Display;
 use std::process::Abort;
@@ -30,22 +31,11 @@ const RECORDS: [Record; 3] = [
 
 const MOVES: [u16; 5] = [1, 2, 0, 2, 2];
 
-// The number of the refusal, 0 where there is none.
-fn number_of(answer: Result<(), WatcherRefusal>) -> u8 {
-    match answer {
-        Ok(()) => 0,
-        Err(refusal) => refusal.number(),
-    }
-}
-
 // A state with this label, whose next states are the given ones for the labels 0 to 3 and 0 for all
 // others.
 fn state_of(label: u8, first: [u8; 4]) -> WatcherState {
     let mut next = [0; 16];
-    next[0] = first[0];
-    next[1] = first[1];
-    next[2] = first[2];
-    next[3] = first[3];
+    next[..4].copy_from_slice(&first);
     WatcherState { label, next }
 }
 
@@ -105,13 +95,8 @@ fn check_answers<B: Board>(
 ) {
     assert_eq!(rt; board.count(), count, "{what}");
     for (position, side, label, moves) in positions {
-        let answers = (
-            board.side(*position),
-            board.label(*position),
-            board.moves(*position),
-        );
         assert_eq!(rt;
-            answers,
+            spot(board, *position),
             (*side, *label, *moves),
             "{what}, position {position}"
         );
@@ -309,7 +294,7 @@ fn fills_one_state_and_keeps_the_others(rt: HostRuntime) -> Result<(), Fail> {
         assert_eq!(rt; number_of(answer), 0, "{case:?}");
         let mut filled = two_states()?;
         assert!(rt; state < 2);
-        filled.table[state as usize] = state_of(label, first);
+        filled.table[usize::from(state)] = state_of(label, first);
         assert_eq!(rt; watcher, filled, "{case:?}");
     }
     Ok(())

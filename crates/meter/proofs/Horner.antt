@@ -1,38 +1,47 @@
 -- Counters read into one number, place by place.
-use Rattle.std.proofs.Common.{◌≡◌, ℕ, suc, ◌+◌, ◌*◌, ◌<◌, ◌≤◌, true, List, length, get_or, drop, sym, ap, ◌∙◌, mul_assoc, mul-le-mul_left, mul-one, add-one, arith}
-use Rattle.std.proofs.lemmas.List.{take_all, drop_all}
+use Rattle.std.proofs.Common.{◌≡◌, ℕ, zero, suc, ◌+◌, ◌*◌, ◌<◌, true, List, [], ◌∷◌, ◌++◌, length, min, take, drop, zip, sym, refl, ap, ◌∙◌, mul_assoc, add-mul, mul-le-mul_left, mul-one, arith}
+use Rattle.std.proofs.lemmas.List.{length-take}
+use Rattle.std.proofs.lemmas.List.Sums.{fold-append}
+use Rattle.std.specs.List.{fold}
 use Rattle.meter.specs.Counters.{within, spread, number}
-use Rattle.meter.specs.CounterSteps.{before, weight}
-use Rattle.meter.specs.Radix.{within-length, number_at, number-below, number-split, spread_at, spread-some}
+use Rattle.meter.specs.Radix.{within-length, number-below, number-split, spread-some}
+
+-- counters with their limits, read from a number on
+abbrev pub horner : ℕ → List (ℕ × ℕ) → ℕ
+horner t ps = fold (λ (a : ℕ) (p : ℕ × ℕ). a * (p.1 + 1) + p.0) t ps
+
+-- one place more
+pub horner-push : (ps : List (ℕ × ℕ)) (a : ℕ) (p : ℕ × ℕ) → a ≡ horner 0 ps → a * (p.1 + 1) + p.0 ≡ horner 0 (ps ++ p ∷ [])
+horner-push ps a p e = ap (λ (n : ℕ). n * (p.1 + 1) + p.0) e ∙ sym (fold-append _ 0 ps (p ∷ []))
+
+horner-zip : (t : ℕ) (ns cs : List ℕ) → length ns ≡ length cs → horner t (zip cs ns) ≡ t * spread ns + number ns cs
+horner-zip t [] [] e = omega arith
+horner-zip t [] (c ∷ cs) e = absurd (omega arith)
+horner-zip t (n ∷ ns) [] e = absurd (omega arith)
+horner-zip t (n ∷ ns) (c ∷ cs) e =
+    let rest = horner-zip (t * (n + 1) + c) ns cs (omega arith) in
+    let apart = add-mul (t * (n + 1)) c (spread ns) in
+    let group = mul_assoc t (n + 1) (spread ns) in
+    omega arith
+
+take_zip : (k : ℕ) (cs ns : List ℕ) → take k (zip cs ns) ≡ zip (take k cs) (take k ns)
+take_zip zero cs ns = refl
+take_zip (suc k) [] ns = refl
+take_zip (suc k) (c ∷ cs) [] = refl
+take_zip (suc k) (c ∷ cs) (n ∷ ns) = ap (λ ps. (c, n) ∷ ps) (take_zip k cs ns)
 
 module _ (ns cs : List ℕ) (w : within ns cs ≡ true) where
-  -- one place more
-  pub before_more : (k : ℕ) → k < length ns → before (k + 1) ns cs ≡ before k ns cs * (get_or ns k 0 + 1) + get_or cs k 0
-  before_more k lt = ap (λ (j : ℕ). before j ns cs) (add-one k) ∙ number_at ns cs k lt (within-length ns cs w)
+  pub horner-all : horner 0 (zip cs ns) ≡ number ns cs
+  horner-all = horner-zip 0 ns cs (within-length ns cs w) ∙ omega arith
 
-  -- the number never passes that of all counters
-  pub before-few : (k : ℕ) → before k ns cs < spread ns
-  before-few k =
-      let whole = number-split ns cs k (within-length ns cs w) in
+  -- on the way the number never passes that of all counters
+  pub horner-few : (k : ℕ) → horner 0 (take k (zip cs ns)) < spread ns
+  horner-few k =
+      let same = within-length ns cs w in
+      let front = horner-zip 0 (take k ns) (take k cs) (length-take k ns ∙ ap (λ n. min k n) same ∙ sym (length-take k cs)) in
+      let cut = ap (horner 0) (take_zip k cs ns) in
+      let whole = number-split ns cs k same in
       let below = number-below ns cs w in
-      let some = mul-le-mul_left (before k ns cs) (spread-some (drop k ns)) in
-      let one = mul-one (before k ns cs) in
+      let some = mul-le-mul_left (number (take k ns) (take k cs)) (spread-some (drop k ns)) in
+      let one = mul-one (number (take k ns) (take k cs)) in
       omega arith
-
-  pub before-all : (k : ℕ) → length ns ≤ k → before k ns cs ≡ number ns cs
-  before-all k le = let long = within-length ns cs w in λ i. number (take_all k ns le i) (take_all k cs (omega arith) i)
-
--- one limit more multiplied
-pub weight-more : (ns : List ℕ) (k t : ℕ) → k < length ns → t * weight k ns ≡ (t * (get_or ns k 0 + 1)) * weight (k + 1) ns
-weight-more ns k t lt =
-    ap (λ (x : ℕ). t * x) (spread_at ns k lt)
-    ∙ sym (mul_assoc t (get_or ns k 0 + 1) (weight (suc k) ns))
-    ∙ sym (ap (λ (j : ℕ). (t * (get_or ns k 0 + 1)) * weight j ns) (add-one k))
-
--- a factor of the whole is no larger
-pub factor_few : (ns : List ℕ) (k t : ℕ) → t * weight k ns ≡ spread ns → t ≤ spread ns
-factor_few ns k t e =
-    let some = mul-le-mul_left t (spread-some (drop k ns)) in let one = mul-one t in omega arith
-
-pub weight-all : (ns : List ℕ) (k t : ℕ) → length ns ≤ k → t * weight k ns ≡ spread ns → t ≡ spread ns
-weight-all ns k t le e = let none = ap (λ (x : ℕ). t * x) (ap spread (drop_all k ns le)) in let one = mul-one t in omega arith

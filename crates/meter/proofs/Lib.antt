@@ -1,7 +1,7 @@
 pub mod Adjoint
-pub mod Compared
 pub mod Horner
 pub mod Limits
 pub mod Order
+pub mod Pairs
 pub mod Places
-pub mod Stepped
+pub mod Spread

@@ -1,12 +1,14 @@
 -- The order of counters: by their number, by the first that differs, and as arrays are compared.
-use Rattle.std.proofs.Common.{◌≡◌, ℕ, zero, suc, ◌+◌, ◌*◌, ◌<◌, ◌≤◌, true, leb, ◌⊎◌, List, [], ◌∷◌, get_or, take, Some, Decides, Ordering, Less, Equal, Greater, sym, refl, ap, subst, ◌∙◌, inl, inr, ⊎_elim, mul-le-mul_right, add-mul, arith}
-use Rattle.std.proofs.lemmas.Bool.{cases_order, le-leb, lt-leb, leb-true}
-use Rattle.std.proofs.lemmas.Bool.Decides.{nat_tests}
-use Rattle.std.specs.Cmp.{nat_cmp_is}
+use Rattle.std.proofs.Common.{◌≡◌, ℕ, zero, suc, ◌+◌, ◌*◌, ◌<◌, ◌≤◌, Bool, true, leb, ◌⊎◌, List, [], ◌∷◌, get_or, take, Decides, sym, refl, ap, ◌∙◌, inl, inr, ⊎_elim, mul-le-mul_right, add-mul, arith}
+use Rattle.std.proofs.lemmas.Bool.{false≢true, cases_order, le-leb, leb-true}
+use Rattle.std.proofs.lemmas.Bool.Decides.{Decides-at, nat_tests}
 use Rattle.std.specs.Cmp.Lexicographic.{slice_partial_cmp}
-use Rattle.std.specs.Ordering.{MatchOrdering, is_some_and, is_le, nat_cmp, as_partial_cmp, partial_ordering_then}
+use Rattle.std.specs.Ordering.{is_some_and, is_le, nat_cmp, as_partial_cmp}
 use Rattle.meter.specs.Counters.{within, spread, number, Smaller}
+use Rattle.meter.specs.Marked.{rank_in}
 use Rattle.meter.specs.Radix.{within-head, number-below}
+use Rattle.meter.specs.Return.{CountsAsMemory, counts_as}
+use Rattle.meter.specs.declared.reading.Reading.{Reading}
 
 -- a smaller first counter outweighs all that come after it
 first-less : (n c d : ℕ) (ns cs ds : List ℕ) → within (n ∷ ns) (c ∷ cs) ≡ true → c < d → number (n ∷ ns) (c ∷ cs) < number (n ∷ ns) (d ∷ ds)
@@ -18,10 +20,10 @@ first-less n c d ns cs ds w lt =
 
 smaller_number : (ns cs ds : List ℕ) (k : ℕ) → within ns cs ≡ true → within ns ds ≡ true → take k cs ≡ take k ds → get_or cs k 0 < get_or ds k 0 → number ns cs < number ns ds
 smaller_number [] [] [] k w v same lt = absurd (omega arith)
-smaller_number [] [] (d ∷ ds) k w v same lt = absurd (let z : ◌≡◌ {A = ℕ} 0 1 = cc in omega arith)
-smaller_number [] (c ∷ cs) ds k w v same lt = absurd (let z : ◌≡◌ {A = ℕ} 0 1 = cc in omega arith)
-smaller_number (n ∷ ns) [] ds k w v same lt = absurd (let z : ◌≡◌ {A = ℕ} 0 1 = cc in omega arith)
-smaller_number (n ∷ ns) (c ∷ cs) [] k w v same lt = absurd (let z : ◌≡◌ {A = ℕ} 0 1 = cc in omega arith)
+smaller_number [] [] (d ∷ ds) k w v same lt = absurd (false≢true v)
+smaller_number [] (c ∷ cs) ds k w v same lt = absurd (false≢true w)
+smaller_number (n ∷ ns) [] ds k w v same lt = absurd (false≢true w)
+smaller_number (n ∷ ns) (c ∷ cs) [] k w v same lt = absurd (false≢true v)
 smaller_number (n ∷ ns) (c ∷ cs) (d ∷ ds) zero w v same lt = first-less n c d ns cs ds w lt
 smaller_number (n ∷ ns) (c ∷ cs) (d ∷ ds) (suc k) w v same lt =
     let head : c ≡ d = cc in
@@ -42,10 +44,10 @@ further c d cs ds e (inr s) = inr (record { place = suc s.place; same = let t = 
 -- and only then
 number-ordered : (ns cs ds : List ℕ) → within ns cs ≡ true → within ns ds ≡ true → number ns cs ≤ number ns ds → (cs ≡ ds) ⊎ Smaller cs ds
 number-ordered [] [] [] w v le = inl refl
-number-ordered [] [] (d ∷ ds) w v le = absurd (let z : ◌≡◌ {A = ℕ} 0 1 = cc in omega arith)
-number-ordered [] (c ∷ cs) ds w v le = absurd (let z : ◌≡◌ {A = ℕ} 0 1 = cc in omega arith)
-number-ordered (n ∷ ns) [] ds w v le = absurd (let z : ◌≡◌ {A = ℕ} 0 1 = cc in omega arith)
-number-ordered (n ∷ ns) (c ∷ cs) [] w v le = absurd (let z : ◌≡◌ {A = ℕ} 0 1 = cc in omega arith)
+number-ordered [] [] (d ∷ ds) w v le = absurd (false≢true v)
+number-ordered [] (c ∷ cs) ds w v le = absurd (false≢true w)
+number-ordered (n ∷ ns) [] ds w v le = absurd (false≢true w)
+number-ordered (n ∷ ns) (c ∷ cs) [] w v le = absurd (false≢true v)
 number-ordered (n ∷ ns) (c ∷ cs) (d ∷ ds) w v le = go (number-ordered ns cs ds (within-head n c ns cs w).1 (within-head n d ns ds v).1)
   where
     go : (number ns cs ≤ number ns ds → (cs ≡ ds) ⊎ Smaller cs ds) → (c ∷ cs ≡ d ∷ ds) ⊎ Smaller (c ∷ cs) (d ∷ ds)
@@ -66,25 +68,30 @@ order_decides ns cs ds w v = (
 -- comparing two arrays of counters, as `<=` does, compares their numbers
 pub compared_number : (ns cs ds : List ℕ) → within ns cs ≡ true → within ns ds ≡ true → is_some_and is_le (slice_partial_cmp (as_partial_cmp nat_cmp) cs ds) ≡ leb (number ns cs) (number ns ds)
 compared_number [] [] [] w v = refl
-compared_number [] [] (d ∷ ds) w v = absurd (let z : ◌≡◌ {A = ℕ} 0 1 = cc in omega arith)
-compared_number [] (c ∷ cs) ds w v = absurd (let z : ◌≡◌ {A = ℕ} 0 1 = cc in omega arith)
-compared_number (n ∷ ns) [] ds w v = absurd (let z : ◌≡◌ {A = ℕ} 0 1 = cc in omega arith)
-compared_number (n ∷ ns) (c ∷ cs) [] w v = absurd (let z : ◌≡◌ {A = ℕ} 0 1 = cc in omega arith)
+compared_number [] [] (d ∷ ds) w v = absurd (false≢true v)
+compared_number [] (c ∷ cs) ds w v = absurd (false≢true w)
+compared_number (n ∷ ns) [] ds w v = absurd (false≢true w)
+compared_number (n ∷ ns) (c ∷ cs) [] w v = absurd (false≢true v)
 compared_number (n ∷ ns) (c ∷ cs) (d ∷ ds) w v =
     let rest = compared_number ns cs ds (within-head n c ns cs w).1 (within-head n d ns ds v).1 in
-    ⊎_elim (λ e. from rest Equal e) (⊎_elim (λ lt. from rest Less lt) (λ gt. from rest Greater gt)) (cases_order c d)
-  where
-    shifted : c ≡ d → leb (number ns cs) (number ns ds) ≡ leb (number (n ∷ ns) (c ∷ cs)) (number (n ∷ ns) (d ∷ ds))
-    shifted e = let front = ap (λ (x : ℕ). x * spread ns) e in grind (arith, nat_tests)
+    let less = first-less n c d ns cs ds w in
+    let more = first-less n d c ns ds cs v in
+    grind (arith, nat_tests)
 
-    at : (is_some_and is_le (slice_partial_cmp (as_partial_cmp nat_cmp) cs ds) ≡ leb (number ns cs) (number ns ds)) → (k : Ordering) → MatchOrdering k (c < d) (c ≡ d) (d < c) → is_some_and is_le (partial_ordering_then (Some k) (slice_partial_cmp (as_partial_cmp nat_cmp) cs ds)) ≡ leb (number (n ∷ ns) (c ∷ cs)) (number (n ∷ ns) (d ∷ ds))
-    at rest Less p = let less = first-less n c d ns cs ds w p in sym (le-leb (number (n ∷ ns) (c ∷ cs)) (number (n ∷ ns) (d ∷ ds)) (omega arith))
-    at rest Equal p = rest ∙ shifted p
-    at rest Greater p = let more = first-less n d c ns ds cs v p in sym (lt-leb (number (n ∷ ns) (c ∷ cs)) (number (n ∷ ns) (d ∷ ds)) more)
+one_more : (m n : ℕ) → leb m n ≡ leb (m + 1) (n + 1)
+one_more m n = grind (arith, nat_tests)
 
-    from : (is_some_and is_le (slice_partial_cmp (as_partial_cmp nat_cmp) cs ds) ≡ leb (number ns cs) (number ns ds)) → (k : Ordering) → MatchOrdering k (c < d) (c ≡ d) (d < c) → is_some_and is_le (partial_ordering_then (Some (nat_cmp c d)) (slice_partial_cmp (as_partial_cmp nat_cmp) cs ds)) ≡ leb (number (n ∷ ns) (c ∷ cs)) (number (n ∷ ns) (d ∷ ds))
-    from rest k p =
-        subst
-        (λ (r : Ordering). is_some_and is_le (partial_ordering_then (Some r) (slice_partial_cmp (as_partial_cmp nat_cmp) cs ds)) ≡ leb (number (n ∷ ns) (c ∷ cs)) (number (n ∷ ns) (d ∷ ds)))
-        (nat_cmp_is c d k p)
-        (at rest k p)
+-- and so their ranks
+pub compared_rank : (ns cs ds : List ℕ) → within ns cs ≡ true → within ns ds ≡ true → is_some_and is_le (slice_partial_cmp (as_partial_cmp nat_cmp) cs ds) ≡ leb (number ns cs + 1) (number ns ds + 1)
+compared_rank ns cs ds w v = compared_number ns cs ds w v ∙ one_more (number ns cs) (number ns ds)
+
+-- the rank of a memory is one more than its number
+pub memory-rank : (ns : List ℕ) (x : Reading (List ℕ)) → CountsAsMemory ns x → rank_in (spread ns) (number ns) (counts_as ns x) ≡ number ns x.content + 1
+memory-rank ns x m = rw (m.0, m.1) refl
+
+-- two memories are ordered by the first counter that differs
+pub ordered_by_first : (ns : List ℕ) (x y : Reading (List ℕ)) (r : Bool) → r ≡ leb (rank_in (spread ns) (number ns) (counts_as ns x)) (rank_in (spread ns) (number ns) (counts_as ns y)) → CountsAsMemory ns x → CountsAsMemory ns y → Decides r ((x.content ≡ y.content) ⊎ Smaller x.content y.content)
+ordered_by_first ns x y r e m k =
+    let a = memory-rank ns x m in
+    let b = memory-rank ns y k in
+    Decides-at r (leb (number ns x.content) (number ns y.content)) (e ∙ (λ i. leb (a i) (b i)) ∙ sym (one_more (number ns x.content) (number ns y.content))) (order_decides ns x.content y.content m.1 k.1)

@@ -1,11 +1,18 @@
 -- The actions of a deadline meter: their numbers, the one that a label has, and how one is set.
-use Rattle.std.specs.Prelude.{ℕ, Bool, cond, ◌&&◌, List, Some, None, Option, ◌==◌, nat_le, slice_index_or, slice_set}
+use Rattle.std.specs.Prelude.{ℕ, Bool, cond, ◌&&◌, List, Some, None, Option, Result, ◌==◌, nat_le, slice_index_or, slice_set}
+use Rattle.std.specs.Option.{ok_or}
 use Rattle.meter.specs.declared.actions.Action.{Action}
 use Rattle.meter.specs.declared.actions.Action.TheVariants.{Keep, Add, Back}
+use Rattle.meter.specs.declared.refusals.ActionRefusal.{ActionRefusal}
+use Rattle.meter.specs.declared.refusals.ActionRefusal.TheVariants.{BadAction}
 
 -- the numbers of the actions, 0 to 2; no other number stands for one
 abbrev pub action_numbered : ℕ → Option Action
 action_numbered n = cond (n == 0) (Some Keep) (cond (n == 1) (Some Add) (cond (n == 2) (Some Back) None))
+
+-- the action that a number is read as, or the refusal of one that stands for none
+abbrev pub action_read : ℕ → Result Action ActionRefusal
+action_read n = ok_or (action_numbered n) BadAction
 
 -- the action of a label up to 15; one above 15 keeps
 abbrev pub action_at : List Action → ℕ → Action

@@ -1,10 +1,11 @@
 -- What the steps of counters do to their number, over any list of limits. Nothing here has to be read to understand a
 -- contract.
-use Rattle.std.specs.Prelude.{◌≡◌, ℕ, zero, suc, ◌+◌, ◌-◌, ◌*◌, ◌<◌, ◌≤◌, Bool, true, false, cond, List, [], ◌∷◌, ◌++◌, length, take, drop, replicate, Some, slice_index, slice_index_or, slice_set, refl}
+use Rattle.std.specs.Prelude.{◌≡◌, ℕ, zero, suc, ◌+◌, ◌-◌, ◌*◌, ◌<◌, ◌≤◌, true, List, [], ◌∷◌, ◌++◌, length, take, drop, replicate, slice_index, slice_index_or, slice_set, refl}
 use Rattle.std.proofs.Common.{sym, ap, ◌∙◌, add-mul, mul_assoc, add-one, arith}
-use Rattle.std.proofs.lemmas.Bool.{ltb-true, ltb-false}
+use Rattle.std.proofs.lemmas.Bool.Decides.{nat_tests}
 use Rattle.meter.specs.Counters.{within, spread, number, cleared, filled, last_place, has_room, has_some, carried, borrowed}
-use Rattle.meter.specs.Marked.{Seen, rank_in}
+use Rattle.meter.specs.Marked.{rank_in}
+use Rattle.meter.specs.declared.seen.Seen.{Seen}
 use Rattle.meter.specs.MarkedLaws.{Well}
 use Rattle.meter.specs.Radix.{within-length, within-at, within-set, within-cleared, within-filled, number-zeros, number-full, number-set, spread_at, number_at, spread-split}
 
@@ -103,42 +104,34 @@ module _ (ns cs : List ℕ) (w : within ns cs ≡ true) where
 
   pub carried-rank : (k : ℕ) → k ≤ length ns → rank_of ns (carried cs (last_place (has_room ns cs) k)) ≡ (before k ns cs + 1) * weight k ns + 1
   carried-rank zero le = omega arith
-  carried-rank (suc k) le = go (has_room ns cs k) refl (carried-rank k (omega arith))
-    where
-      go : (b : Bool) → has_room ns cs k ≡ b → rank_of ns (carried cs (last_place (has_room ns cs) k)) ≡ (before k ns cs + 1) * weight k ns + 1 → rank_of ns (carried cs (cond b (Some k) (last_place (has_room ns cs) k))) ≡ (before (suc k) ns cs + 1) * weight (suc k) ns + 1
-      go true e _ = ap (λ (i : ℕ). number ns (slice_set (cleared i cs) k (slice_index cs k + 1)) + 1) (add-one k) ∙ ap (λ (x : ℕ). x + 1) (more-number k (omega arith))
-      go false e rest =
-          let full = ltb-false (slice_index cs k) (slice_index ns k) e in
-          let most = within-at ns cs w k in
-          rest ∙ ap (λ (x : ℕ). x + 1) (carry-on k (omega arith) (omega arith))
+  carried-rank (suc k) le =
+      let rest = carried-rank k (omega arith) in
+      let put = more-number k (omega arith) in
+      let on = carry-on k (omega arith) in
+      let most = within-at ns cs w k in
+      let next = add-one k in
+      grind (arith, nat_tests)
 
   pub carried-well : (k : ℕ) → Well (within ns) (carried cs (last_place (has_room ns cs) k))
   carried-well zero = tt
-  carried-well (suc k) = go (has_room ns cs k) refl (carried-well k)
-    where
-      go : (b : Bool) → has_room ns cs k ≡ b → Well (within ns) (carried cs (last_place (has_room ns cs) k)) → Well (within ns) (carried cs (cond b (Some k) (last_place (has_room ns cs) k)))
-      go true e _ =
-          let room = ltb-true (slice_index cs k) (slice_index ns k) e in
-          within-set ns (cleared (k + 1) cs) k (slice_index cs k + 1) (within-cleared ns cs (k + 1) w) (omega arith)
-      go false e rest = rest
+  carried-well (suc k) =
+      let rest = carried-well k in
+      let put = within-set ns (cleared (k + 1) cs) k (slice_index cs k + 1) (within-cleared ns cs (k + 1) w) in
+      grind (arith, nat_tests)
 
   pub borrowed-rank : (k : ℕ) → k ≤ length ns → rank_of ns (borrowed ns cs (last_place (has_some cs) k)) ≡ before k ns cs * weight k ns
   borrowed-rank zero le = omega arith
-  borrowed-rank (suc k) le = go (has_some cs k) refl (borrowed-rank k (omega arith))
-    where
-      go : (b : Bool) → has_some cs k ≡ b → rank_of ns (borrowed ns cs (last_place (has_some cs) k)) ≡ before k ns cs * weight k ns → rank_of ns (borrowed ns cs (cond b (Some k) (last_place (has_some cs) k))) ≡ before (suc k) ns cs * weight (suc k) ns
-      go true e _ =
-          ap (λ (i : ℕ). number ns (slice_set (filled i ns cs) k (slice_index cs k - 1)) + 1) (add-one k)
-          ∙ less-number k (omega arith) (ltb-true 0 (slice_index cs k) e)
-      go false e rest =
-          let empty = ltb-false 0 (slice_index cs k) e in rest ∙ borrow-on k (omega arith) (omega arith)
+  borrowed-rank (suc k) le =
+      let rest = borrowed-rank k (omega arith) in
+      let put = less-number k (omega arith) in
+      let on = borrow-on k (omega arith) in
+      let next = add-one k in
+      grind (arith, nat_tests)
 
   pub borrowed-well : (k : ℕ) → Well (within ns) (borrowed ns cs (last_place (has_some cs) k))
   borrowed-well zero = tt
-  borrowed-well (suc k) = go (has_some cs k) refl (borrowed-well k)
-    where
-      go : (b : Bool) → has_some cs k ≡ b → Well (within ns) (borrowed ns cs (last_place (has_some cs) k)) → Well (within ns) (borrowed ns cs (cond b (Some k) (last_place (has_some cs) k)))
-      go true e _ =
-          let most = within-at ns cs w k in
-          within-set ns (filled (k + 1) ns cs) k (slice_index cs k - 1) (within-filled ns cs (k + 1) w) (omega arith)
-      go false e rest = rest
+  borrowed-well (suc k) =
+      let rest = borrowed-well k in
+      let most = within-at ns cs w k in
+      let put = within-set ns (filled (k + 1) ns cs) k (slice_index cs k - 1) (within-filled ns cs (k + 1) w) in
+      grind (arith, nat_tests)

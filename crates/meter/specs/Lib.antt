@@ -1,7 +1,6 @@
 pub mod Gauge
 pub mod Marked
 pub mod MarkedLaws
-pub mod Kinds
 pub mod Counters
 pub mod Radix
 pub mod CounterSteps

@@ -7,24 +7,33 @@ use Rattle.std.proofs.Math.Logic.{⊎_elim}
 use native.Mathlib.Omega.{arith}
 use Rattle.std.proofs.lemmas.Bool.{cases_lt, cond-true, cond-false, lt-ltb, le-ltb}
 use Rattle.meter.specs.Gauge.{Laws, ExactlyWhen}
-use Rattle.meter.specs.Marked.{Seen, nothing, memory, past, by_mark, Scale, rank_in, stepped, gauge_of}
+use Rattle.meter.specs.Marked.{seen_where, shown_over, Scale, rank_in, stepped, gauge_of}
+use Rattle.meter.specs.declared.reading.Reading.{Reading}
+use Rattle.meter.specs.declared.seen.Seen.{Seen}
+use Rattle.meter.specs.declared.seen.Seen.TheVariants.{None, Memory, Overflow}
 
 -- the content of a memory fits
 abbrev pub Well : {C : Type 0} → (C → Bool) → Seen C → Type 0
-Well fits nothing = Unit {0}
-Well fits (memory c) = fits c ≡ true
-Well fits past = Unit {0}
+Well fits None = Unit {0}
+Well fits (Memory c) = fits c ≡ true
+Well fits Overflow = Unit {0}
 
--- what is read by a mark is well
-pub by_mark-well : {C : Type 0} (fits : C → Bool) (mark : ℕ) (c : C) → Well fits (by_mark mark (fits c) c)
-by_mark-well fits mark c = go (mark == 1) (mark == 2) (fits c) refl
+-- what a reading counts as is well
+pub seen-well : {C : Type 0} (fits : C → Bool) (x : Reading C) → Well fits (seen_where fits x)
+seen-well fits x = go (x.mark == 1) (x.mark == 2) (fits x.content) refl
   where
-    go : (one two b : Bool) → fits c ≡ b → Well fits (cond (one && b) (memory c) (cond two past nothing))
+    go : (one two b : Bool) → fits x.content ≡ b → Well fits (cond (one && b) (Memory x.content) (cond two Overflow None))
     go true two true e = e
     go true true false e = tt
     go true false false e = tt
     go false true b e = tt
     go false false b e = tt
+
+-- none, a memory and overflow are read as they are written
+pub seen-shown : {C : Type 0} (fits : C → Bool) (blank : C) (t : Seen C) → Well fits t → seen_where fits (shown_over blank t) ≡ t
+seen-shown fits blank None w = refl
+seen-shown fits blank (Memory c) w = rw w refl
+seen-shown fits blank Overflow w = refl
 
 -- what is to be known of a scale
 pub record Lawful {X C : Type 0} (s : Scale X C) : Type 0 where
@@ -47,19 +56,19 @@ module _ {X C : Type 0} (s : Scale X C) (l : Lawful s) where
 
   rank_most : (t : Seen C) → Well s.fits t → rank t ≤ s.size + 1
   unfolding rank
-  rank_most nothing w = omega arith
-  rank_most (memory c) w = omega (arith, l.below c w)
-  rank_most past w = omega arith
+  rank_most None w = omega arith
+  rank_most (Memory c) w = omega (arith, l.below c w)
+  rank_most Overflow w = omega arith
 
   up-well : (t : Seen C) (p : ℕ) → p < 16 → Well s.fits t → Well s.fits (stepped s.raise p t)
-  up-well nothing p lt w = tt
-  up-well (memory c) p lt w = (l.raised c p lt w).0
-  up-well past p lt w = tt
+  up-well None p lt w = tt
+  up-well (Memory c) p lt w = (l.raised c p lt w).0
+  up-well Overflow p lt w = tt
 
   down-well : (t : Seen C) (p : ℕ) → p < 16 → Well s.fits t → Well s.fits (stepped s.lower p t)
-  down-well nothing p lt w = tt
-  down-well (memory c) p lt w = (l.lowered c p lt w).0
-  down-well past p lt w = tt
+  down-well None p lt w = tt
+  down-well (Memory c) p lt w = (l.lowered c p lt w).0
+  down-well Overflow p lt w = tt
 
   shown-rank : (t : Seen C) → Well s.fits t → rank (s.seen (s.shown t)) ≡ rank t
   shown-rank t w = ap rank (l.seen_shown t w)
@@ -84,33 +93,33 @@ module _ {X C : Type 0} (s : Scale X C) (l : Lawful s) where
   -- the laws over what readings count as
   none_stays : (t : Seen C) (p : ℕ) → Well s.fits t → rank t ≡ 0 → rank (stepped s.raise p t) ≡ 0
   unfolding rank
-  none_stays nothing p w e = refl
-  none_stays (memory c) p w e = absurd (omega arith)
-  none_stays past p w e = absurd (omega arith)
+  none_stays None p w e = refl
+  none_stays (Memory c) p w e = absurd (omega arith)
+  none_stays Overflow p w e = absurd (omega arith)
 
   overflow-stays : (t : Seen C) (p : ℕ) → Well s.fits t → rank t ≡ s.size + 1 → rank (stepped s.raise p t) ≡ s.size + 1
   unfolding rank
-  overflow-stays nothing p w e = absurd (omega arith)
-  overflow-stays (memory c) p w e = absurd (omega (arith, l.below c w))
-  overflow-stays past p w e = refl
+  overflow-stays None p w e = absurd (omega arith)
+  overflow-stays (Memory c) p w e = absurd (omega (arith, l.below c w))
+  overflow-stays Overflow p w e = refl
 
   some-stays : (t : Seen C) (p : ℕ) → p < 16 → Well s.fits t → 1 ≤ rank t → 1 ≤ rank (stepped s.raise p t)
   unfolding rank
-  some-stays nothing p lt w h = h
-  some-stays (memory c) p lt w h = (l.raised c p lt w).1
-  some-stays past p lt w h = h
+  some-stays None p lt w h = h
+  some-stays (Memory c) p lt w h = (l.raised c p lt w).1
+  some-stays Overflow p lt w h = h
 
   adjoint-in : (t u : Seen C) (p : ℕ) → p < 16 → Well s.fits t → Well s.fits u → ExactlyWhen (rank (stepped s.raise p t) ≤ rank u) (rank t ≤ rank (stepped s.lower p u))
   unfolding rank
-  adjoint-in nothing u p lt w v = (λ _. omega arith, λ _. omega arith)
-  adjoint-in (memory c) nothing p lt w v = (λ h. let k = (l.raised c p lt w).1 in absurd (omega arith), λ h. absurd (omega arith))
-  adjoint-in (memory c) (memory d) p lt w v = l.adjoint c d p lt w v
-  adjoint-in (memory c) past p lt w v =
+  adjoint-in None u p lt w v = (λ _. omega arith, λ _. omega arith)
+  adjoint-in (Memory c) None p lt w v = (λ h. let k = (l.raised c p lt w).1 in absurd (omega arith), λ h. absurd (omega arith))
+  adjoint-in (Memory c) (Memory d) p lt w v = l.adjoint c d p lt w v
+  adjoint-in (Memory c) Overflow p lt w v =
       (λ h. omega (arith, l.below c w), λ h. rank_most (s.raise c p) (l.raised c p lt w).0)
-  adjoint-in past nothing p lt w v = (λ h. absurd (omega arith), λ h. absurd (omega arith))
-  adjoint-in past (memory d) p lt w v =
+  adjoint-in Overflow None p lt w v = (λ h. absurd (omega arith), λ h. absurd (omega arith))
+  adjoint-in Overflow (Memory d) p lt w v =
       (λ h. absurd (omega (arith, l.below d v)), λ h. let k = (l.lowered d p lt v).1 in absurd (omega arith))
-  adjoint-in past past p lt w v = (λ h. h, λ h. h)
+  adjoint-in Overflow Overflow p lt w v = (λ h. h, λ h. h)
 
   adjoint-at : (x y : X) (p : ℕ) → p < 16 → ExactlyWhen (rank (s.seen ((gauge_of s).up x p)) ≤ rank (s.seen y)) (rank (s.seen x) ≤ rank (s.seen ((gauge_of s).down y p)))
   adjoint-at x y p lt =
@@ -135,10 +144,10 @@ module _ {X C : Type 0} (s : Scale X C) (l : Lawful s) where
     some = l.some;
     few = l.few;
     bounded = λ x. rank_most (s.seen x) (l.seen_well x);
-    none_rank = shown-rank nothing tt;
-    least_rank = shown-rank (memory s.first) l.first_fits ∙ omega (arith, l.first_number);
-    greatest_rank = shown-rank (memory s.last) l.last_fits ∙ l.last_number;
-    overflow_rank = shown-rank past tt;
+    none_rank = shown-rank None tt;
+    least_rank = shown-rank (Memory s.first) l.first_fits ∙ omega (arith, l.first_number);
+    greatest_rank = shown-rank (Memory s.last) l.last_fits ∙ l.last_number;
+    overflow_rank = shown-rank Overflow tt;
     up_none = λ x p e. ⊎_elim
         (λ (lt : p < 16). up-rank x p lt ∙ none_stays (s.seen x) p (l.seen_well x) e)
         (λ (ge : 16 ≤ p). up-kept-rank x p ge ∙ e)

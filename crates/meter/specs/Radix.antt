@@ -1,7 +1,7 @@
 -- Counters as a number in mixed radix, over any list of limits. Nothing here has to be read to understand a contract.
 use Rattle.std.specs.Prelude.{◌≡◌, ℕ, zero, suc, ◌+◌, ◌-◌, ◌*◌, ◌<◌, ◌≤◌, true, List, [], ◌∷◌, ◌++◌, length, take, drop, replicate, nat_le, slice_index, slice_set, refl}
 use Rattle.std.proofs.Common.{sym, ap, subst, ◌∙◌, add-mul, mul_assoc, mul-le-mul_right, arith}
-use Rattle.std.proofs.lemmas.Bool.{and_parts, and_from, leb-true, le-leb}
+use Rattle.std.proofs.lemmas.Bool.{false≢true, and_parts, and_from, leb-true, le-leb}
 use Rattle.meter.specs.Counters.{within, spread, number, cleared, filled}
 
 -- what fits the limits, part by part
@@ -13,13 +13,13 @@ within-cons n c ns cs le w = and_from (nat_le c n) (within ns cs) (le-leb c n le
 
 pub within-length : (ns cs : List ℕ) → within ns cs ≡ true → length ns ≡ length cs
 within-length [] [] h = refl
-within-length [] (c ∷ cs) h = absurd (let z : ◌≡◌ {A = ℕ} 0 1 = cc in omega arith)
-within-length (n ∷ ns) [] h = absurd (let z : ◌≡◌ {A = ℕ} 0 1 = cc in omega arith)
+within-length [] (c ∷ cs) h = absurd (false≢true h)
+within-length (n ∷ ns) [] h = absurd (false≢true h)
 within-length (n ∷ ns) (c ∷ cs) h = ap suc (within-length ns cs (within-head n c ns cs h).1)
 
 pub within-at : (ns cs : List ℕ) → within ns cs ≡ true → (k : ℕ) → slice_index cs k ≤ slice_index ns k
 within-at [] [] h k = omega arith
-within-at [] (c ∷ cs) h k = absurd (let z : ◌≡◌ {A = ℕ} 0 1 = cc in omega arith)
+within-at [] (c ∷ cs) h k = absurd (false≢true h)
 within-at (n ∷ ns) [] h k = omega arith
 within-at (n ∷ ns) (c ∷ cs) h zero = (within-head n c ns cs h).0
 within-at (n ∷ ns) (c ∷ cs) h (suc k) = within-at ns cs (within-head n c ns cs h).1 k
@@ -27,14 +27,14 @@ within-at (n ∷ ns) (c ∷ cs) h (suc k) = within-at ns cs (within-head n c ns 
 pub within-drop : (ns cs : List ℕ) (k : ℕ) → within ns cs ≡ true → within (drop k ns) (drop k cs) ≡ true
 within-drop ns cs zero h = h
 within-drop [] [] (suc k) h = refl
-within-drop [] (c ∷ cs) (suc k) h = absurd (let z : ◌≡◌ {A = ℕ} 0 1 = cc in omega arith)
-within-drop (n ∷ ns) [] (suc k) h = absurd (let z : ◌≡◌ {A = ℕ} 0 1 = cc in omega arith)
+within-drop [] (c ∷ cs) (suc k) h = absurd (false≢true h)
+within-drop (n ∷ ns) [] (suc k) h = absurd (false≢true h)
 within-drop (n ∷ ns) (c ∷ cs) (suc k) h = within-drop ns cs k (within-head n c ns cs h).1
 
 pub within-set : (ns cs : List ℕ) (k v : ℕ) → within ns cs ≡ true → v ≤ slice_index ns k → within ns (slice_set cs k v) ≡ true
 within-set [] [] k v h le = refl
-within-set [] (c ∷ cs) k v h le = absurd (let z : ◌≡◌ {A = ℕ} 0 1 = cc in omega arith)
-within-set (n ∷ ns) [] k v h le = absurd (let z : ◌≡◌ {A = ℕ} 0 1 = cc in omega arith)
+within-set [] (c ∷ cs) k v h le = absurd (false≢true h)
+within-set (n ∷ ns) [] k v h le = absurd (false≢true h)
 within-set (n ∷ ns) (c ∷ cs) zero v h le = within-cons n v ns cs le (within-head n c ns cs h).1
 within-set (n ∷ ns) (c ∷ cs) (suc k) v h le =
     let p = within-head n c ns cs h in within-cons n c ns (slice_set cs k v) p.0 (within-set ns cs k v p.1 le)
@@ -54,8 +54,8 @@ within-clear ns cs zero m e h =
     subst (λ (i : ℕ). within ns (replicate i 0) ≡ true) long (within-zeros ns)
 within-clear [] [] (suc k) m e h =
     let gone : 0 ≡ m = omega arith in subst (λ (i : ℕ). within [] (replicate i 0) ≡ true) gone (within-zeros [])
-within-clear [] (c ∷ cs) (suc k) m e h = absurd (let z : ◌≡◌ {A = ℕ} 0 1 = cc in omega arith)
-within-clear (n ∷ ns) [] (suc k) m e h = absurd (let z : ◌≡◌ {A = ℕ} 0 1 = cc in omega arith)
+within-clear [] (c ∷ cs) (suc k) m e h = absurd (false≢true h)
+within-clear (n ∷ ns) [] (suc k) m e h = absurd (false≢true h)
 within-clear (n ∷ ns) (c ∷ cs) (suc k) m e h =
     let p = within-head n c ns cs h in
     within-cons n c ns (take k cs ++ replicate m 0) p.0 (within-clear ns cs k m (omega arith) p.1)
@@ -66,8 +66,8 @@ within-cleared ns cs k h = within-clear ns cs k (length cs - k) refl h
 pub within-filled : (ns cs : List ℕ) (k : ℕ) → within ns cs ≡ true → within ns (filled k ns cs) ≡ true
 within-filled ns cs zero h = within-full ns
 within-filled [] [] (suc k) h = refl
-within-filled [] (c ∷ cs) (suc k) h = absurd (let z : ◌≡◌ {A = ℕ} 0 1 = cc in omega arith)
-within-filled (n ∷ ns) [] (suc k) h = absurd (let z : ◌≡◌ {A = ℕ} 0 1 = cc in omega arith)
+within-filled [] (c ∷ cs) (suc k) h = absurd (false≢true h)
+within-filled (n ∷ ns) [] (suc k) h = absurd (false≢true h)
 within-filled (n ∷ ns) (c ∷ cs) (suc k) h =
     let p = within-head n c ns cs h in within-cons n c ns (filled k ns cs) p.0 (within-filled ns cs k p.1)
 
@@ -78,7 +78,7 @@ spread-some (n ∷ ns) = let s = spread-some ns in let m = mul-le-mul_right {m =
 
 pub number-below : (ns cs : List ℕ) → within ns cs ≡ true → number ns cs < spread ns
 number-below [] cs h = omega arith
-number-below (n ∷ ns) [] h = absurd (let z : ◌≡◌ {A = ℕ} 0 1 = cc in omega arith)
+number-below (n ∷ ns) [] h = absurd (false≢true h)
 number-below (n ∷ ns) (c ∷ cs) h =
     let p = within-head n c ns cs h in
     let rest = number-below ns cs p.1 in

@@ -3,29 +3,28 @@ use Rattle.std.specs.Prelude.{◌≡◌, ℕ, ◌+◌, ◌*◌, true, List, map,
 use Rattle.std.specs.List.{range_with_len}
 use Rattle.board.specs.Spot.{Spot, how_many}
 use Rattle.meter.specs.Counters.{within, spread, number, raised, lowered}
-use Rattle.meter.specs.Marked.{Seen, nothing, memory, past, by_mark, Scale}
-use Rattle.meter.specs.declared.return_reading.ReturnReading.{ReturnReading}
+use Rattle.meter.specs.Marked.{seen_where, shown_over, Scale}
+use Rattle.meter.specs.declared.reading.Reading.{Reading}
+use Rattle.meter.specs.declared.seen.Seen.{Seen}
 
--- all eight counters at 0
+-- all eight counters at 0, as a reading that is none or overflow is written
 abbrev pub zeros : List ℕ
 zeros = replicate 8 0
 
 -- a memory has mark 1; none and overflow, marks 0 and 2, have every counter written as 0
-abbrev pub written : Seen (List ℕ) → ReturnReading
-written nothing = record { mark = 0; counters = zeros }
-written (memory cs) = record { mark = 1; counters = cs }
-written past = record { mark = 2; counters = zeros }
+abbrev pub written : Seen (List ℕ) → Reading (List ℕ)
+written = shown_over zeros
 
 -- what a reading counts as under these limits: a counter above its limit makes a memory count as none
-abbrev pub counts_as : List ℕ → ReturnReading → Seen (List ℕ)
-counts_as ns x = by_mark x.mark (within ns x.counters) x.counters
+abbrev pub counts_as : List ℕ → Reading (List ℕ) → Seen (List ℕ)
+counts_as ns = seen_where (within ns)
 
 -- it counts as a memory: mark 1, and no counter above its limit
-abbrev pub CountsAsMemory : List ℕ → ReturnReading → Type 0
-CountsAsMemory ns x = (x.mark ≡ 1) × (within ns x.counters ≡ true)
+abbrev pub CountsAsMemory : List ℕ → Reading (List ℕ) → Type 0
+CountsAsMemory ns x = (x.mark ≡ 1) × (within ns x.content ≡ true)
 
 -- the meter with these limits
-abbrev pub return_scale : List ℕ → Scale ReturnReading (List ℕ)
+abbrev pub return_scale : List ℕ → Scale (Reading (List ℕ)) (List ℕ)
 return_scale ns = record {
   seen = counts_as ns;
   shown = written;

@@ -1,6 +1,6 @@
 -- Why the return meter keeps the laws: the witness that its `impl` gives. Nothing here has to be read to understand a
 -- contract.
-use Rattle.std.specs.Prelude.{◌≡◌, ℕ, ◌+◌, ◌*◌, ◌%◌, ◌<◌, ◌≤◌, Bool, true, false, cond, List, length, drop, replicate, ◌==◌, refl}
+use Rattle.std.specs.Prelude.{◌≡◌, ℕ, ◌+◌, ◌*◌, ◌%◌, ◌<◌, ◌≤◌, Bool, true, false, cond, List, length, drop, replicate, ◌==◌}
 use Rattle.std.proofs.Common.{⊎_elim, add-mul, mul-le-mul_right}
 use Rattle.std.proofs.Math.Path.{subst}
 use native.Mathlib.Omega.{arith}
@@ -9,10 +9,12 @@ use Rattle.meter.specs.Counters.{within, total, spread, number, cleared, filled,
 use Rattle.meter.specs.CounterSteps.{before, weight, rank_of, cleared-number, filled-number, carried-rank, carried-well, borrowed-rank, borrowed-well}
 use Rattle.meter.specs.Few.{spread-few}
 use Rattle.meter.specs.Gauge.{Laws, ExactlyWhen}
-use Rattle.meter.specs.Marked.{Seen, nothing, memory, past, gauge_of}
-use Rattle.meter.specs.MarkedLaws.{Well, Lawful, by_mark-well, marked-laws}
+use Rattle.meter.specs.Marked.{gauge_of}
+use Rattle.meter.specs.MarkedLaws.{Well, Lawful, seen-well, seen-shown, marked-laws}
 use Rattle.meter.specs.Radix.{within-length, within-drop, within-zeros, within-full, within-cleared, within-filled, number-below, number-zeros, number-full, number-split, spread-some}
-use Rattle.meter.specs.Return.{written, counts_as, return_scale}
+use Rattle.meter.specs.Return.{zeros, return_scale}
+use Rattle.meter.specs.declared.seen.Seen.{Seen}
+use Rattle.meter.specs.declared.seen.Seen.TheVariants.{Memory}
 
 -- a multiple below the next multiple is at most this one
 multiple : (a b m : ℕ) → a * m < b * m + m → a * m ≤ b * m
@@ -42,19 +44,13 @@ odd_adjoint a b m r s lr ls =
           (cases_lt (b * m) ((a + 1) * m)),
     )
 
--- none, a memory and overflow are read as they are written
-read_back : (ns : List ℕ) (t : Seen (List ℕ)) → Well (within ns) t → counts_as ns (written t) ≡ t
-read_back ns nothing w = refl
-read_back ns (memory cs) w = rw w refl
-read_back ns past w = refl
-
 -- the steps of a memory, with the first k counters kept or counted
 module _ (ns : List ℕ) (k : ℕ) (le : k ≤ length ns) where
   up : Bool → List ℕ → Seen (List ℕ)
-  up even cs = cond even (memory (cleared k cs)) (carried cs (last_place (has_room ns cs) k))
+  up even cs = cond even (Memory (cleared k cs)) (carried cs (last_place (has_room ns cs) k))
 
   down : Bool → List ℕ → Seen (List ℕ)
-  down even cs = cond even (memory (filled k ns cs)) (borrowed ns cs (last_place (has_some cs) k))
+  down even cs = cond even (Memory (filled k ns cs)) (borrowed ns cs (last_place (has_some cs) k))
 
   up-well : (even : Bool) (cs : List ℕ) → within ns cs ≡ true → Well (within ns) (up even cs) × (1 ≤ rank_of ns (up even cs))
   unfolding up
@@ -110,8 +106,8 @@ module _ (ns : List ℕ) (long : length ns ≡ 8) (few : total ns ≤ 512) where
   return-lawful = record {
     some = spread-some ns;
     few = spread-few ns long few;
-    seen_well = λ x. by_mark-well (within ns) x.mark x.counters;
-    seen_shown = read_back ns;
+    seen_well = seen-well (within ns);
+    seen_shown = seen-shown (within ns) zeros;
     below = number-below ns;
     first_fits = subst (λ (m : ℕ). within ns (replicate m 0) ≡ true) long (within-zeros ns);
     first_number = number-zeros ns 8;

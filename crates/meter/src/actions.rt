@@ -1,7 +1,10 @@
 ghost use Rattle.std.specs.Prelude.{◌≡◌};
-ghost use Rattle.meter.specs.Actions.{action_numbered};
+ghost use Rattle.meter.specs.Actions.{action_read};
 
-// What leaving a position with a label does to the number of a deadline reading.
+use crate::refusals::ActionRefusal;
+
+// What leaving a position with a label does to the number of a deadline reading. An enum and no function:
+// a meter is copied, and tells the action of a label.
 #[derive(Clone, Copy, Debug, PartialEq, Eq)]
 pub enum Action {
     // The number stays.
@@ -13,13 +16,17 @@ pub enum Action {
 }
 
 // The action that the number stands for.
-pub(crate) fn read_action(number: u8) -> Option<Action>
-    ensures { result ≡ action_numbered number }
-{
-    match number {
-        0 => Some(Action::Keep),
-        1 => Some(Action::Add),
-        2 => Some(Action::Back),
-        _ => None,
+impl TryFrom<u8> for Action {
+    type Error = ActionRefusal;
+
+    ghost try_from_gives = { λ number result. result ≡ action_read number };
+
+    fn try_from(number: u8) -> Result<Action, ActionRefusal> {
+        match number {
+            0 => Ok(Action::Keep),
+            1 => Ok(Action::Add),
+            2 => Ok(Action::Back),
+            _ => Err(ActionRefusal::BadAction),
+        }
     }
 }

@@ -1,17 +1,17 @@
 ghost use Rattle.std.specs.Prelude.{◌≡◌, ◌≤◌, replicate, if◌then◌else◌};
+ghost use Rattle.board.specs.Refusals.{number_answered, refused_unless};
 ghost use Rattle.meter.specs.Actions.{action_at, actions_after, settable};
-ghost use Rattle.meter.specs.Deadline.{deadline_scale, raise_by, lower_by, seen_below, shown_as};
+ghost use Rattle.meter.specs.Deadline.{deadline_scale, raise_by, lower_by, seen_below};
 ghost use Rattle.meter.specs.DeadlineLaws.{deadline_laws};
-ghost use Rattle.meter.specs.Kinds.{kind_of};
 ghost use Rattle.meter.specs.Marked.{gauge_of};
-ghost use Rattle.meter.specs.Refusals.{action_answer, number_answered};
+ghost use Rattle.meter.specs.Refusals.{number_of};
 ghost use Rattle.meter.specs.declared.actions.Action.TheVariants.{Keep};
 
-use crate::actions::{Action, read_action};
-use crate::deadline_reading::DeadlineReading;
-use crate::kinds::Kind;
+use crate::actions::Action;
 use crate::meter::Meter;
+use crate::reading::DeadlineReading;
 use crate::refusals::ActionRefusal;
+use crate::seen::Seen;
 use board::HIGHEST_LABEL;
 
 // Measures how long something due has stayed away: each label keeps the number, adds one to it or
@@ -37,23 +37,19 @@ impl DeadlineMeter {
         }
     }
 
-    // Sets what the label does, or refuses by 22 and changes nothing.
+    // Sets what the label does, or refuses by 22 and changes nothing. The action is a number, since a number
+    // that stands for none has to be refused.
     pub fn set_action(&mut self, label: u8, action: u8) -> Result<(), ActionRefusal>
-        ensures answer { result ≡ action_answer (settable label action) }
-        ensures number { number_answered result ≡ (if settable label action then 0 else 22) }
+        ensures answer { result ≡ refused_unless (settable label action) ActionRefusal.BadAction }
+        ensures number { number_answered number_of result ≡ (if settable label action then 0 else 22) }
         ensures limit { self.new.limit ≡ self.old.limit }
         ensures actions { self.new.actions ≡ actions_after self.old.actions label action }
     {
         if label > HIGHEST_LABEL {
             return Err(ActionRefusal::BadAction);
         }
-        match read_action(action) {
-            Some(known) => {
-                self.actions[label as usize] = known;
-                Ok(())
-            }
-            None => Err(ActionRefusal::BadAction),
-        }
+        self.actions[usize::from(label)] = Action::try_from(action)?;
+        Ok(())
     }
 
     pub fn limit(&self) -> u16
@@ -69,48 +65,37 @@ impl DeadlineMeter {
         if label > HIGHEST_LABEL {
             return Action::Keep;
         }
-        self.actions[label as usize]
+        self.actions[usize::from(label)]
     }
 
     // What the reading counts as.
-    fn kind(&self, x: DeadlineReading) -> Kind
-        ensures { result ≡ kind_of (seen_below self.now.limit x) }
+    fn seen(&self, x: DeadlineReading) -> Seen<u16>
+        ensures { result ≡ seen_below self.now.limit x }
     {
-        Kind::of(x.mark, x.number <= self.limit)
-    }
-
-    // The place of the reading among all: none, the memories by their number, overflow.
-    fn rank(&self, x: DeadlineReading) -> u32
-        ensures { result ≡ (gauge_of (deadline_scale self.now.limit self.now.actions)).rank x }
-    {
-        match self.kind(x) {
-            Kind::None => 0,
-            Kind::Memory => u32::from(x.number) + 1,
-            Kind::Overflow => u32::from(self.limit) + 2,
-        }
+        Seen::of(x, x.content <= self.limit)
     }
 
     // Where the label takes the memory with this number.
-    fn raised(&self, number: u16, label: u8) -> DeadlineReading
-        ensures { result ≡ shown_as (raise_by self.now.limit number (action_at self.now.actions label)) }
+    fn raised(&self, number: u16, label: u8) -> Seen<u16>
+        ensures { result ≡ raise_by self.now.limit number (action_at self.now.actions label) }
     {
         match self.action(label) {
-            Action::Keep => DeadlineReading::memory(number),
-            Action::Add if number < self.limit => DeadlineReading::memory(number + 1),
-            Action::Add => DeadlineReading::OVERFLOW,
-            Action::Back => DeadlineReading::memory(0),
+            Action::Keep => Seen::Memory(number),
+            Action::Add if number < self.limit => Seen::Memory(number + 1),
+            Action::Add => Seen::Overflow,
+            Action::Back => Seen::Memory(0),
         }
     }
 
-    // The greatest reading that the label takes to the memory with this number or below.
-    fn lowered(&self, number: u16, label: u8) -> DeadlineReading
-        ensures { result ≡ shown_as (lower_by self.now.limit number (action_at self.now.actions label)) }
+    // The greatest that the label takes to the memory with this number or below.
+    fn lowered(&self, number: u16, label: u8) -> Seen<u16>
+        ensures { result ≡ lower_by self.now.limit number (action_at self.now.actions label) }
     {
         match self.action(label) {
-            Action::Keep => DeadlineReading::memory(number),
-            Action::Add if number == 0 => DeadlineReading::NONE,
-            Action::Add => DeadlineReading::memory(number - 1),
-            Action::Back => DeadlineReading::memory(self.limit),
+            Action::Keep => Seen::Memory(number),
+            Action::Add if number == 0 => Seen::None,
+            Action::Add => Seen::Memory(number - 1),
+            Action::Back => Seen::Memory(self.limit),
         }
     }
 }
@@ -123,44 +108,40 @@ impl Meter for DeadlineMeter {
     ghost laws = { λ m. deadline_laws m.limit m.actions m.within };
 
     fn none(&self) -> DeadlineReading {
-        DeadlineReading::NONE
+        Seen::None.into()
     }
 
     fn least(&self) -> DeadlineReading {
-        DeadlineReading::memory(0)
+        Seen::Memory(0).into()
     }
 
     fn greatest(&self) -> DeadlineReading {
-        DeadlineReading::memory(self.limit)
+        Seen::Memory(self.limit).into()
     }
 
     fn overflow(&self) -> DeadlineReading {
-        DeadlineReading::OVERFLOW
+        Seen::Overflow.into()
     }
 
     fn at_most(&self, x: DeadlineReading, y: DeadlineReading) -> bool {
-        self.rank(x) <= self.rank(y)
+        self.seen(x) <= self.seen(y)
     }
 
     fn up(&self, x: DeadlineReading, label: u8) -> DeadlineReading {
         if label > HIGHEST_LABEL {
             return x;
         }
-        match self.kind(x) {
-            Kind::None => DeadlineReading::NONE,
-            Kind::Memory => self.raised(x.number, label),
-            Kind::Overflow => DeadlineReading::OVERFLOW,
-        }
+        self.seen(x)
+            .and_then(|number| self.raised(*number, label))
+            .into()
     }
 
     fn down(&self, y: DeadlineReading, label: u8) -> DeadlineReading {
         if label > HIGHEST_LABEL {
             return y;
         }
-        match self.kind(y) {
-            Kind::None => DeadlineReading::NONE,
-            Kind::Memory => self.lowered(y.number, label),
-            Kind::Overflow => DeadlineReading::OVERFLOW,
-        }
+        self.seen(y)
+            .and_then(|number| self.lowered(*number, label))
+            .into()
     }
 }

@@ -4,19 +4,19 @@
 mod actions;
 mod counters;
 mod deadline_meter;
-mod deadline_reading;
-mod kinds;
 mod marks;
 mod meter;
+mod reading;
 mod refusals;
 mod return_meter;
-mod return_reading;
+mod seen;
 
 pub use actions::Action;
+pub use board::Refusal;
 pub use deadline_meter::DeadlineMeter;
-pub use deadline_reading::DeadlineReading;
 pub use marks::{MEMORY, NONE, OVERFLOW};
 pub use meter::Meter;
+pub use reading::{COUNTERS, Counters, DeadlineReading, Reading, ReturnReading};
 pub use refusals::ActionRefusal;
 pub use return_meter::ReturnMeter;
-pub use return_reading::{COUNTERS, ReturnReading};
+pub use seen::Seen;

@@ -1,4 +1,5 @@
-// The marks of a reading. Any other number counts as none.
+// The marks of a reading. They are numbers and no enum, since any number may stand there; another counts
+// as none.
 
 pub const NONE: u8 = 0;
 

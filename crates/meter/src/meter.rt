@@ -2,7 +2,8 @@ ghost use Rattle.std.specs.Prelude.{◌≡◌, nat_le};
 ghost use Rattle.meter.specs.Gauge.{Gauge, Laws, AdjointAt, GreatestBefore};
 
 // A meter (the domain of a progress measure): it measures a run by a reading, which each label left takes
-// up, to overflow at the last. Readings are compared by rank.
+// up, to overflow at the last. Readings are compared by rank. What the impls have alike is a line or two in
+// each method; a type between, which would take the two steps as parameters, would be longer than both.
 pub trait Meter {
     // What the meter measures with.
     type Reading: Copy;

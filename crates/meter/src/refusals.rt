@@ -1,5 +1,7 @@
-ghost use Rattle.std.specs.Prelude.{◌≡◌};
+ghost use Rattle.std.proofs.Common.{rules};
 ghost use Rattle.meter.specs.Refusals.{number_of};
+
+use board::Refusal;
 
 // Why the action of a label was not set.
 #[derive(Clone, Copy, Debug, PartialEq, Eq)]
@@ -8,11 +10,12 @@ pub enum ActionRefusal {
     BadAction = 22,
 }
 
-impl ActionRefusal {
-    // The number by which the refusal is known outside.
-    pub fn number(&self) -> u8
-        ensures { result ≡ number_of self.now }
-    {
+impl Refusal for ActionRefusal {
+    ghost known_as = { number_of };
+
+    ghost above_0 = { Prim.search rules };
+
+    fn number(&self) -> u8 {
         *self as u8
     }
 }

@@ -1,24 +1,22 @@
-ghost use Rattle.std.specs.Prelude.{◌≡◌, ◌+◌, ◌^◌, ◌<◌, ◌≤◌, ◌⊎◌, length, Decides, nat_le};
-ghost use Rattle.meter.specs.Counters.{Smaller, total, spread, number, raised, lowered};
-ghost use Rattle.meter.specs.Kinds.{kind_of};
+ghost use Rattle.std.specs.Prelude.{◌≡◌, ◌+◌, ◌^◌, ◌<◌, ◌≤◌, ◌⊎◌, true, length, Decides, nat_le};
+ghost use Rattle.meter.specs.Counters.{Smaller, total, within, spread, number, raised, lowered};
 ghost use Rattle.meter.specs.Marked.{gauge_of};
-ghost use Rattle.meter.specs.Return.{CountsAsMemory, written, counts_as, return_scale, limits_on};
+ghost use Rattle.meter.specs.Return.{CountsAsMemory, counts_as, return_scale, limits_on};
 ghost use Rattle.meter.specs.ReturnLaws.{return-laws};
 
-use crate::counters::{
-    are_within, cleared_from, filled_from, last_with_room, last_with_some, number_of, spread_of,
-};
-use crate::kinds::Kind;
+use crate::counters::{ZEROS, last_where, with_tail};
 use crate::meter::Meter;
-use crate::return_reading::{COUNTERS, ReturnReading};
+use crate::reading::{Counters, ReturnReading};
+use crate::seen::Seen;
 use board::{Board, HIGHEST_LABEL, count_label};
+use std::array;
 
 // The return meter: a counter for each odd label, which leaving the label raises and leaving a smaller one
 // resets; a full counter carries to those of smaller labels. The limits are how many positions of a board
 // bear each odd label.
 #[derive(Clone, Copy)]
 pub struct ReturnMeter {
-    limits: [u16; COUNTERS],
+    limits: Counters,
     ghost few: { (length limits ≡ 8) × (total limits ≤ 512) },
 }
 
@@ -27,15 +25,13 @@ impl ReturnMeter {
     pub fn counted_on<B: Board>(board: &B) -> ReturnMeter
         ensures { result.limits ≡ limits_on (B.Board.meaning board.now) }
     {
-        let mut limits = [0; COUNTERS];
-        for k in 0..COUNTERS {
-            limits[k] = count_label(board, 2 * k as u8 + 1);
+        ReturnMeter {
+            limits: array::from_fn(|k| count_label(board, 2 * k as u8 + 1)),
         }
-        ReturnMeter { limits }
     }
 
     // The limit of each counter.
-    pub fn limits(&self) -> [u16; COUNTERS]
+    pub fn limits(&self) -> Counters
         ensures { result ≡ self.now.limits }
     {
         self.limits
@@ -46,65 +42,88 @@ impl ReturnMeter {
         ensures value { result ≡ spread self.now.limits }
         ensures few { (1 ≤ result) × (result ≤ 2 ^ 49) }
     {
-        spread_of(&self.limits)
+        let counts = self.limits.iter().map(|limit| u64::from(*limit) + 1);
+        counts.product()
     }
 
     // The reading's rank: 0 for none, one more than its number for a memory, and then overflow.
     pub fn rank(&self, x: ReturnReading) -> u64
         ensures value { result ≡ (gauge_of (return_scale self.now.limits)).rank x }
-        ensures mixed { CountsAsMemory self.now.limits x → result ≡ number self.now.limits x.counters + 1 }
+        ensures mixed { CountsAsMemory self.now.limits x → result ≡ number self.now.limits x.content + 1 }
     {
-        match self.kind(&x) {
-            Kind::None => 0,
-            Kind::Memory => number_of(&self.limits, &x.counters) + 1,
-            Kind::Overflow => self.memories() + 1,
+        match self.seen(x) {
+            Seen::None => 0,
+            Seen::Memory(counters) => self.number(&counters) + 1,
+            Seen::Overflow => self.memories() + 1,
         }
     }
 
     // What the reading counts as.
-    fn kind(&self, x: &ReturnReading) -> Kind
-        ensures { result ≡ kind_of (counts_as self.now.limits x.now) }
+    fn seen(&self, x: ReturnReading) -> Seen<Counters>
+        ensures { result ≡ counts_as self.now.limits x }
     {
-        Kind::of(x.mark, are_within(&self.limits, &x.counters))
+        Seen::of(x, self.fits(&x.content))
+    }
+
+    // Whether no counter is above its limit.
+    fn fits(&self, counters: &Counters) -> bool
+        ensures { result ≡ within self.now.limits counters.now }
+    {
+        counters
+            .iter()
+            .zip(&self.limits)
+            .all(|(count, limit)| count <= limit)
+    }
+
+    // The counters as one number in mixed radix, the first weighing most.
+    fn number(&self, counters: &Counters) -> u64
+        requires { within self.now.limits counters.now ≡ true }
+        ensures { result ≡ number self.now.limits counters.now }
+    {
+        counters
+            .iter()
+            .zip(&self.limits)
+            .fold(0, |number, (count, limit)| {
+                number * (u64::from(*limit) + 1) + u64::from(*count)
+            })
     }
 
     // One step up from the memory with these counters.
-    fn raised(&self, counters: [u16; COUNTERS], label: u8) -> ReturnReading
+    fn raised(&self, counters: &Counters, label: u8) -> Seen<Counters>
         requires { label < 16 }
-        ensures { result ≡ written (raised self.now.limits counters label) }
+        ensures { result ≡ raised self.now.limits counters.now label }
     {
-        let places = (label as usize + 1) / 2;
+        let places = (usize::from(label) + 1) / 2;
         if label % 2 == 0 {
-            return ReturnReading::memory(cleared_from(counters, places));
+            return Seen::Memory(with_tail(*counters, &ZEROS, places));
         }
-        match last_with_room(&self.limits, &counters, places) {
+        match last_where(places, |k| counters[k] < self.limits[k]) {
             Some(place) => {
-                let count = counters[place] + 1;
-                let mut counters = cleared_from(counters, place + 1);
-                counters[place] = count;
-                ReturnReading::memory(counters)
+                let mut next = with_tail(*counters, &ZEROS, place + 1);
+                next[place] = counters[place] + 1;
+                Seen::Memory(next)
             }
-            None => ReturnReading::OVERFLOW,
+            None => Seen::Overflow,
         }
     }
 
-    // One step down from the memory with these counters.
-    fn lowered(&self, counters: [u16; COUNTERS], label: u8) -> ReturnReading
+    // One step down from the memory with these counters. It differs from a step up in the test, in what the
+    // later counters become, in the step of the one and in the end: a function of all four would say less.
+    fn lowered(&self, counters: &Counters, label: u8) -> Seen<Counters>
         requires { label < 16 }
-        ensures { result ≡ written (lowered self.now.limits counters label) }
+        ensures { result ≡ lowered self.now.limits counters.now label }
     {
-        let places = (label as usize + 1) / 2;
+        let places = (usize::from(label) + 1) / 2;
         if label % 2 == 0 {
-            return ReturnReading::memory(filled_from(&self.limits, counters, places));
+            return Seen::Memory(with_tail(*counters, &self.limits, places));
         }
-        match last_with_some(&counters, places) {
+        match last_where(places, |k| counters[k] > 0) {
             Some(place) => {
-                let count = counters[place] - 1;
-                let mut counters = filled_from(&self.limits, counters, place + 1);
-                counters[place] = count;
-                ReturnReading::memory(counters)
+                let mut next = with_tail(*counters, &self.limits, place + 1);
+                next[place] = counters[place] - 1;
+                Seen::Memory(next)
             }
-            None => ReturnReading::NONE,
+            None => Seen::None,
         }
     }
 }
@@ -117,56 +136,44 @@ impl Meter for ReturnMeter {
     ghost laws = { λ m. return-laws m.limits m.few.0 m.few.1 };
 
     fn none(&self) -> ReturnReading {
-        ReturnReading::NONE
+        Seen::None.into()
     }
 
     fn least(&self) -> ReturnReading {
-        ReturnReading::memory([0; COUNTERS])
+        Seen::Memory(ZEROS).into()
     }
 
     fn greatest(&self) -> ReturnReading {
-        ReturnReading::memory(self.limits)
+        Seen::Memory(self.limits).into()
     }
 
     fn overflow(&self) -> ReturnReading {
-        ReturnReading::OVERFLOW
+        Seen::Overflow.into()
     }
 
     // Two memories are ordered by the first counter that differs.
     fn at_most(&self, x: ReturnReading, y: ReturnReading) -> bool
         ensures value { result ≡ nat_le ((gauge_of (return_scale self.now.limits)).rank x) ((gauge_of (return_scale self.now.limits)).rank y) }
-        ensures order { CountsAsMemory self.now.limits x → CountsAsMemory self.now.limits y → Decides result ((x.counters ≡ y.counters) ⊎ Smaller x.counters y.counters) }
+        ensures order { CountsAsMemory self.now.limits x → CountsAsMemory self.now.limits y → Decides result ((x.content ≡ y.content) ⊎ Smaller x.content y.content) }
     {
-        match (self.kind(&x), self.kind(&y)) {
-            (Kind::None, _) => true,
-            (Kind::Memory, Kind::None) => false,
-            (Kind::Memory, Kind::Memory) => x.counters <= y.counters,
-            (Kind::Memory, Kind::Overflow) => true,
-            (Kind::Overflow, Kind::None) => false,
-            (Kind::Overflow, Kind::Memory) => false,
-            (Kind::Overflow, Kind::Overflow) => true,
-        }
+        self.seen(x) <= self.seen(y)
     }
 
     fn up(&self, x: ReturnReading, label: u8) -> ReturnReading {
         if label > HIGHEST_LABEL {
             return x;
         }
-        match self.kind(&x) {
-            Kind::None => ReturnReading::NONE,
-            Kind::Memory => self.raised(x.counters, label),
-            Kind::Overflow => ReturnReading::OVERFLOW,
-        }
+        self.seen(x)
+            .and_then(|counters| self.raised(counters, label))
+            .into()
     }
 
     fn down(&self, y: ReturnReading, label: u8) -> ReturnReading {
         if label > HIGHEST_LABEL {
             return y;
         }
-        match self.kind(&y) {
-            Kind::None => ReturnReading::NONE,
-            Kind::Memory => self.lowered(y.counters, label),
-            Kind::Overflow => ReturnReading::OVERFLOW,
-        }
+        self.seen(y)
+            .and_then(|counters| self.lowered(counters, label))
+            .into()
     }
 }

@@ -1,7 +1,7 @@
 // The deadline meter: its steps by hand at the smallest limit, a small one and the largest, spoilt
 // readings, labels and actions that it does not know, and that down undoes up as far as it can.
 use crate::checks::{check_adjoint, check_step};
-use board::HIGHEST_LABEL;
+use board::{HIGHEST_LABEL, Refusal};
 use meter::{Action, ActionRefusal, DeadlineMeter, DeadlineReading, Meter};
 use std::fmt::Display;
 use std::process::Abort;
@@ -17,16 +17,16 @@ const ADD: u8 = 7;
 const BACK: u8 = 15;
 
 fn reading_of(pair: Pair) -> DeadlineReading {
-    let (mark, number) = pair;
-    DeadlineReading { mark, number }
+    let (mark, content) = pair;
+    DeadlineReading { mark, content }
 }
 
 // The refusal's number, or 0 where the action was set.
 fn set_answer(meter: &mut DeadlineMeter, label: u8, action: u8) -> u8 {
-    match meter.set_action(label, action) {
-        Ok(()) => 0,
-        Err(refusal) => refusal.number(),
-    }
+    meter
+        .set_action(label, action)
+        .err()
+        .map_or(0, |refusal| refusal.number())
 }
 
 // The meter that adds at label 7, goes back at label 15 and keeps at the others.

@@ -2,29 +2,24 @@
 // does not know, and that down undoes up as far as it can.
 use crate::checks::{check_adjoint, check_step};
 use board::{Pool, Record, Table};
-use meter::{COUNTERS, Meter, ReturnMeter, ReturnReading};
+use meter::{COUNTERS, Counters, Meter, ReturnMeter, ReturnReading};
 use std::fmt::Display;
 use std::process::Abort;
 use std::test::Fail;
 use watch::{Watched, Watcher};
 
-// The counters of the labels 1, 3, .. 15.
-type Counters = [u16; COUNTERS];
-
 const ZEROS: Counters = [0; COUNTERS];
 
-fn written(mark: u8, counters: Counters) -> ReturnReading {
-    ReturnReading { mark, counters }
+fn written(mark: u8, content: Counters) -> ReturnReading {
+    ReturnReading { mark, content }
 }
 
 // The meter counted on a board of 512 positions: the first bear these labels, the others label 0. None
 // has moves.
 fn meter_on(labels: &[u8]) -> ReturnMeter {
     let mut records = [Record::BLANK; 512];
-    for (k, record) in records.iter_mut().enumerate() {
-        if let Some(label) = labels.get(k) {
-            record.label = *label;
-        }
+    for (record, label) in records.iter_mut().zip(labels) {
+        record.label = *label;
     }
     ReturnMeter::counted_on(&Table::new(&records, &[]))
 }

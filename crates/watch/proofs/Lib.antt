@@ -1,2 +1,1 @@
-pub mod WatcherReading
 pub mod WatchedSpots

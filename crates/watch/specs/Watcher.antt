@@ -1,5 +1,6 @@
 -- What a watcher (a deterministic monitor) says, whatever numbers stand in it.
-use Rattle.std.specs.Prelude.{ℕ, ◌-◌, min, max, Bool, true, cond, ◌&&◌, List, [], ◌∷◌, replicate, nat_le, nat_lt, slice_index, slice_index_or, slice_set}
+use Rattle.std.specs.Prelude.{ℕ, ◌-◌, min, max, Bool, cond, ◌&&◌, List, replicate, nat_le, nat_lt, slice_index, slice_index_or, slice_set}
+use Rattle.std.specs.List.{list_all}
 use Rattle.watch.specs.declared.watcher.Watcher.{Watcher}
 use Rattle.watch.specs.declared.watcher.WatcherState.{WatcherState}
 
@@ -29,8 +30,7 @@ good_count n = nat_le 1 n && nat_le n 16
 
 -- whether every state of a list is below n
 abbrev pub stay_below : ℕ → List ℕ → Bool
-stay_below n [] = true
-stay_below n (q ∷ qs) = nat_lt q n && stay_below n qs
+stay_below n qs = list_all (λ q. nat_lt q n) qs
 
 -- whether the watcher may be given s for its state q
 abbrev pub good_state : Watcher → ℕ → WatcherState → Bool

@@ -1,5 +1,7 @@
-ghost use Rattle.std.specs.Prelude.{◌≡◌};
+ghost use Rattle.std.proofs.Common.{rules};
 ghost use Rattle.watch.specs.Refusals.{number_of};
+
+use board::Refusal;
 
 // Why a watcher was not filled, or not put on a board.
 #[derive(Clone, Copy, Debug, PartialEq, Eq)]
@@ -12,11 +14,12 @@ pub enum WatcherRefusal {
     TooLarge = 25,
 }
 
-impl WatcherRefusal {
-    // The number by which the refusal is known outside.
-    pub fn number(&self) -> u8
-        ensures { result ≡ number_of self.now }
-    {
+impl Refusal for WatcherRefusal {
+    ghost known_as = { number_of };
+
+    ghost above_0 = { Prim.search rules };
+
+    fn number(&self) -> u8 {
         *self as u8
     }
 }

@@ -1,11 +1,12 @@
 ghost use Rattle.std.specs.Prelude.{◌≡◌, if◌then◌else◌};
-ghost use Rattle.watch.specs.Refusals.{watcher_answer, number_answered};
+ghost use Rattle.board.specs.Refusals.{number_answered, refused_unless};
+ghost use Rattle.watch.specs.Refusals.{number_of};
 ghost use Rattle.watch.specs.Watched.{Watches, small_enough, states_on, next_on, watched_board};
 ghost use Rattle.watch.specs.WatchedFair.{watched_fair};
 
 use crate::refusals::WatcherRefusal;
 use crate::watcher::Watcher;
-use board::{Board, MOST_POSITIONS};
+use board::{Board, MOST_POSITIONS, Side};
 
 // A board under a watcher of S states: at v × S + q stands position v of the board below, with the watcher
 // in state q. Where there would be too many positions, state 0 alone counts.
@@ -19,14 +20,14 @@ pub struct Watched<B> {
 fn is_small_enough<B: Board>(board: &B, watcher: &Watcher) -> bool
     ensures { result ≡ small_enough (B.Board.meaning board.now) watcher.now }
 {
-    board.count() * watcher.count() as u16 <= MOST_POSITIONS
+    board.count() * u16::from(watcher.count()) <= MOST_POSITIONS
 }
 
 impl<B: Board> Watched<B> {
     // The question beforehand: whether there are few enough positions, or refusal 25.
     pub fn check(board: &B, watcher: &Watcher) -> Result<(), WatcherRefusal>
-        ensures answer { result ≡ watcher_answer WatcherRefusal.TooLarge (small_enough (B.Board.meaning board.now) watcher.now) }
-        ensures number { number_answered result ≡ (if small_enough (B.Board.meaning board.now) watcher.now then 0 else 25) }
+        ensures answer { result ≡ refused_unless (small_enough (B.Board.meaning board.now) watcher.now) WatcherRefusal.TooLarge }
+        ensures number { number_answered number_of result ≡ (if small_enough (B.Board.meaning board.now) watcher.now then 0 else 25) }
     {
         if is_small_enough(board, watcher) {
             Ok(())
@@ -49,7 +50,7 @@ impl<B: Board> Watched<B> {
         ensures { result ≡ states_on (B.Board.meaning self.now.board) self.now.watcher }
     {
         if is_small_enough(&self.board, &self.watcher) {
-            self.watcher.count() as u16
+            u16::from(self.watcher.count())
         } else {
             1
         }
@@ -76,7 +77,7 @@ impl<B: Board> Board for Watched<B> {
         self.board.count() * self.states()
     }
 
-    fn side(&self, position: u16) -> u8 {
+    fn side(&self, position: u16) -> Side {
         self.board.side(position / self.states())
     }
 
@@ -98,8 +99,9 @@ impl<B: Board> Board for Watched<B> {
         if place < self.board.moves(below) {
             let to = self.board.move_at(below, place);
             // The watcher steps by the label of the position that is left.
-            let next = self.next((position % states) as u8, self.board.label(below));
-            to * states + next as u16
+            let state = (position % states) as u8;
+            let next = u16::from(self.next(state, self.board.label(below)));
+            to * states + next
         } else {
             0
         }

@@ -1,5 +1,6 @@
 ghost use Rattle.std.specs.Prelude.{◌≡◌, if◌then◌else◌};
-ghost use Rattle.watch.specs.Refusals.{watcher_answer, number_answered};
+ghost use Rattle.board.specs.Refusals.{number_answered, refused_unless};
+ghost use Rattle.watch.specs.Refusals.{number_of};
 ghost use Rattle.watch.specs.Watcher.{stay_below, blank_watcher, good_count, good_state, states_of, watch_label, watch_next, with_state};
 
 use crate::refusals::WatcherRefusal;
@@ -37,12 +38,7 @@ pub struct Watcher {
 fn stay_below(count: u8, states: &[u8]) -> bool
     ensures { result ≡ stay_below count states.now }
 {
-    for state in states {
-        if *state >= count {
-            return false;
-        }
-    }
-    true
+    states.iter().all(|state| *state < count)
 }
 
 impl Watcher {
@@ -58,8 +54,8 @@ impl Watcher {
 
     // Makes it a watcher of so many states, all of them blank, or refuses by 23.
     pub fn set_states(&mut self, states: u8) -> Result<(), WatcherRefusal>
-        ensures answer { result ≡ watcher_answer WatcherRefusal.BadCount (good_count states) }
-        ensures number { number_answered result ≡ (if good_count states then 0 else 23) }
+        ensures answer { result ≡ refused_unless (good_count states) WatcherRefusal.BadCount }
+        ensures number { number_answered number_of result ≡ (if good_count states then 0 else 23) }
         ensures after { self.new ≡ (if good_count states then blank_watcher states else self.old) }
     {
         if states == 0 || states > MOST_STATES {
@@ -72,15 +68,15 @@ impl Watcher {
 
     // Fills one state, or refuses by 24.
     pub fn set_state(&mut self, state: u8, filled: WatcherState) -> Result<(), WatcherRefusal>
-        ensures answer { result ≡ watcher_answer WatcherRefusal.BadState (good_state self.old state filled) }
-        ensures number { number_answered result ≡ (if good_state self.old state filled then 0 else 24) }
+        ensures answer { result ≡ refused_unless (good_state self.old state filled) WatcherRefusal.BadState }
+        ensures number { number_answered number_of result ≡ (if good_state self.old state filled then 0 else 24) }
         ensures after { self.new ≡ (if good_state self.old state filled then with_state self.old state filled else self.old) }
     {
         let count = self.count();
         if state >= count || filled.label > HIGHEST_LABEL || !stay_below(count, &filled.next) {
             return Err(WatcherRefusal::BadState);
         }
-        self.table[state as usize] = filled;
+        self.table[usize::from(state)] = filled;
         Ok(())
     }
 
@@ -96,7 +92,7 @@ impl Watcher {
         ensures { result ≡ watch_label self.now state }
     {
         if state < self.count() {
-            self.table[state as usize].label.min(HIGHEST_LABEL)
+            self.table[usize::from(state)].label.min(HIGHEST_LABEL)
         } else {
             0
         }
@@ -108,8 +104,8 @@ impl Watcher {
     {
         let count = self.count();
         if state < count && label <= HIGHEST_LABEL {
-            let filled = self.table[state as usize];
-            filled.next[label as usize].min(count - 1)
+            let filled = self.table[usize::from(state)];
+            filled.next[usize::from(label)].min(count - 1)
         } else {
             0
         }

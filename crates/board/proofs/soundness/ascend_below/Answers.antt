@@ -1,24 +1,17 @@
-use Rattle.std.proofs.Common.{◌+◌, get_or, drop, sym, ◌∙◌, arith}
-use Rattle.std.proofs.lemmas.List.{at_drop_more, at_drop_all}
-use Rattle.std.proofs.lemmas.Bool.Decides.{nat_tests}
-use Rattle.board.specs.Rising.{rising}
-use Rattle.board.proofs.Decided.{rising-on}
+use Rattle.std.proofs.Common.{◌≡◌, ltb, rules, tests, sym, ◌∙◌}
+use Rattle.std.proofs.lemmas.Iterator.{YieldsList-from_slice}
+use Rattle.std.proofs.lemmas.Iterator.Search.{all_from_yields_List}
+use Rattle.std.proofs.lemmas.List.Sorted.{answers_always}
+use Rattle.std.specs.List.{list_all}
+use Rattle.board.proofs.Decided.{rising-sorted, rising-not_all}
 use Rattle.board.proofs.soundness.ascend_below.Goals as goal
 
-pub returns-then-m-low : goal.returns-then-m-low
-returns-then-m-low c =
-    let e = at_drop_more (rising c.args.count c.loop-m.low) c.args.moves.now c.loop-m.m-index 0 (omega arith) in
-    grind (arith, nat_tests)
+pub returns-then-all : goal.returns-then-all
+returns-then-all c =
+    let all : c.all.result ≡ list_all (λ m. ltb m c.args.count) c.args.moves.now = all_from_yields_List (λ m. ltb m c.args.count) _ _ c.all.result c.all.ensures.ran (YieldsList-from_slice c.args.moves.now cc) (λ x b q h. search (rules, tests)) in
+    rising-sorted c.args.count c.args.moves.now c.is_sorted_by.result (sym c.if-all.true ∙ all) (c.is_sorted_by.ensures.cases (λ x y. ltb x y) (answers_always _ _ _ (λ f a r g h. search rules)))
 
-pub loop-m-preserved : goal.loop-m-preserved
-loop-m-preserved c =
-    let n = c.args.count in
-    let ms = c.args.moves.now in
-    let i = c.loop-m.m-index in
-    let e = at_drop_more (rising n c.loop-m.low) ms i 0 (omega arith) in
-    sym (rising-on n c.loop-m.low (get_or ms i 0) (drop (i + 1) ms) (omega arith) (omega arith)) ∙ sym e ∙ c.loop-m.invariant
-
-pub returns : goal.returns
-returns c =
-    let e = at_drop_all (rising c.args.count c.loop-m.low) c.args.moves.now c.loop-m.m-index (omega arith) in
-    grind (arith, nat_tests)
+pub returns-else-all : goal.returns-else-all
+returns-else-all c =
+    let all : c.all.result ≡ list_all (λ m. ltb m c.args.count) c.args.moves.now = all_from_yields_List (λ m. ltb m c.args.count) _ _ c.all.result c.all.ensures.ran (YieldsList-from_slice c.args.moves.now cc) (λ x b q h. search (rules, tests)) in
+    c.if-all.false ∙ rising-not_all c.args.count c.args.moves.now (sym c.if-all.false ∙ all)

@@ -1,22 +1,12 @@
-use Rattle.std.proofs.Common.{length, arith}
-use Rattle.std.proofs.lemmas.List.{at_drop_more, at_drop_all}
+use Rattle.std.proofs.Common.{◌≡◌, length, rules, tests}
 use Rattle.std.proofs.lemmas.Bool.Decides.{nat_tests}
-use Rattle.board.specs.Table.{sound_records, blank_record}
+use Rattle.std.proofs.lemmas.Iterator.{YieldsList-from_slice}
+use Rattle.std.proofs.lemmas.Iterator.Search.{all_from_yields_List}
+use Rattle.std.specs.List.{list_all}
+use Rattle.board.specs.Table.{sound_record}
 use Rattle.board.proofs.soundness.is_sound.Goals as goal
-
-pub returns-then-not-keeps_limits : goal.returns-then-not-keeps_limits
-returns-then-not-keeps_limits c =
-    let e = at_drop_more (sound_records (length c.args.records.now) c.args.moves.now) c.args.records.now c.loop-record.record-index blank_record (omega arith) in
-    let k = c.if-not-keeps_limits.ensures in
-    grind (arith, nat_tests)
-
-pub loop-record-preserved : goal.loop-record-preserved
-loop-record-preserved c =
-    let e = at_drop_more (sound_records (length c.args.records.now) c.args.moves.now) c.args.records.now c.loop-record.record-index blank_record (omega arith) in
-    let k = c.if-not-keeps_limits.ensures in
-    grind (arith, nat_tests)
 
 pub returns : goal.returns
 returns c =
-    let e = at_drop_all (sound_records (length c.args.records.now) c.args.moves.now) c.args.records.now c.loop-record.record-index (omega arith) in
-    grind (arith, nat_tests)
+    let all : c.all.result ≡ list_all (sound_record (length c.args.records.now) c.args.moves.now) c.args.records.now = all_from_yields_List (sound_record (length c.args.records.now) c.args.moves.now) _ _ c.all.result c.all.ensures.ran (YieldsList-from_slice c.args.records.now cc) (λ x b q h. search (rules, tests)) in
+    search (rules, nat_tests)

@@ -1,15 +1,10 @@
-use Rattle.std.proofs.Common.{length, ap, ◌∙◌}
-use Rattle.board.specs.Spot.{Spot}
-use Rattle.board.proofs.PoolNumbers.{inside-borne, spot_borne, spot_missing}
+use Rattle.std.proofs.Common.{rules, ◌≡◌, ◌∙◌, length}
+use Rattle.std.specs.Option.{option_map_or}
+use Rattle.board.specs.Pool.{pool_moves}
+use Rattle.board.proofs.PoolAnswers.{read-off}
 use Rattle.board.proofs.pool.PoolBoard.moves.Goals as goal
 
-pub choices-requires : goal.choices-requires
-choices-requires c = inside-borne c.args.self.now.buffers c.args.position c.in-Some.state c.in-Some.ensures
-
-pub returns-in-Some : goal.returns-in-Some
-returns-in-Some c =
-    c.choices.ensures
-    ∙ ap (λ (s : Spot). length s.moves) (spot_borne c.args.self.now.buffers c.args.position c.in-Some.state c.in-Some.ensures)
-
-pub returns-in-None : goal.returns-in-None
-returns-in-None c = ap (λ (s : Spot). length s.moves) (spot_missing c.args.self.now.buffers c.args.position c.in-None.ensures)
+pub returns : goal.returns
+returns c =
+    let told : c.map_or.result ≡ option_map_or (λ p. length (pool_moves p.pool.buffers p.state)) c.position.result 0 = search rules in
+    told ∙ read-off c.args.self.now.buffers c.args.position (λ s. length s.moves) c.position.result c.position.ensures.buffers c.position.ensures.state

@@ -1,0 +1,15 @@
+use Rattle.std.proofs.Common.{rules, tests, arith}
+use Rattle.std.proofs.lemmas.Bool.Decides.{nat_tests}
+use Rattle.meter.specs.Counters.{has_some}
+use Rattle.meter.proofs.Places.{last_place-some, last_place-none}
+use Rattle.meter.proofs.return_meter.ReturnMeter.lowered.Goals as goal
+
+pub returns-in-Some : goal.returns-in-Some
+returns-in-Some c =
+    let e = c.in-Some.ensures in
+    let place = last_place-some (has_some c.args.counters.now) _ _ e.0 (let h = e.1 in search (rules, tests)) (λ j gt lt. let h = e.2 j gt lt in search (rules, tests)) in
+    grind (arith, nat_tests)
+
+pub returns-in-None : goal.returns-in-None
+returns-in-None c =
+    let place = last_place-none (has_some c.args.counters.now) _ (λ j lt. let h = c.in-None.ensures j lt in search (rules, tests)) in grind (arith, nat_tests)
