@@ -16,42 +16,42 @@ part() {
     echo "== $1"
 }
 
-part "1a own enums"
+part "1, own enums"
 seek '^(pub(\(crate\))? )?enum ' "${code[@]}"
-part "1b flags in structs"
+part "1, flags in structs"
 seek '^\s+(pub )?\w+: bool,' "${code[@]}"
-part "1c numbers for sides, marks, kinds of line, actions"
+part "1, numbers for sides, marks, kinds of line, actions"
 seek '\b(side|mark|kind|action): u8|fn side\(.*-> u8|^(pub )?const (NONE|MEMORY|OVERFLOW|\w+_LINE): u8|_in\(line, [0-9]\)' "${code[@]}"
-part "1d answers taken apart by hand, where Option and Result have a method"
+part "1, answers taken apart by hand, where Option and Result have a method"
 seek 'None => (0|None|Record|return)|Err\(_\) =>|Ok\(\(\)\) => 0' "${rust[@]}"
 
-part "2 functions of one name (twins are among them)"
+part "2, functions of one name (twins are among them)"
 git grep -hoE '\bfn \w+' $rev "${code[@]}" | sort | uniq -c | sort -rn | awk '$1 > 1'
 
-part "3a loops"
+part "3, loops"
 seek '^\s*(for .* in|while|loop)\b' "${code[@]}" | grep -v 'boardgen/src/generate.rt'
-part "3b counters moved by hand"
+part "3, counters moved by hand"
 seek '^\s*(total|place|first|low|next|rest|at)\b.* (\+=|-=|=) ' "${code[@]}"
 
-part "4a conversions between enums and numbers"
+part "4, conversions between enums and numbers"
 seek 'fn (read_|of\b|number\(&self\))|impl.*(From|TryFrom|Display|Default|PartialOrd|Ord)\b' "${code[@]}"
-part "4b casts"
+part "4, casts"
 seek ' as (u8|u16|u32|u64|usize)\b' "${rust[@]}"
-part "4c orders written out"
+part "4, orders written out"
 seek '\(Kind::|self\.rank\(x\) <=|match \(self\.' "${code[@]}"
 
-part "5a requires"
+part "5, requires"
 seek '^\s+requires' "${code[@]}"
-part "5b pairs of parameters"
+part "5, pairs of parameters"
 git grep -hoE '(limits: &\[u16; COUNTERS\]|out: &mut \[u8\], at: usize|number: u16|position: u16, out|lines: &mut Lines, count|records: &mut \[Record\]|state: PoolState|board: &B, watcher)' $rev "${code[@]}" | sort | uniq -c | sort -rn
 
-part "6 places and lengths kept as numbers"
+part "6, places and lengths kept as numbers"
 seek '^\s+(pub )?(first|count|states|taken|at|length|len): (u8|u16|usize),' "${code[@]}"
 
-part "7 matches on what to do"
+part "7, matches on what to do"
 seek '^\s*(let .*= )?match ' "${code[@]}" | grep -v 'boardgen/src/generate.rt'
 
-part "8 answers, invariants and lemmas"
+part "8, answers, invariants and lemmas"
 echo "answers: $(git grep -hE '^pub ' $rev -- 'crates/*/proofs/*Answers.antt' | wc -l) in $(git grep -lE '^pub ' $rev -- 'crates/*/proofs/*Answers.antt' | wc -l) files"
 echo "lines of answers and invariants: $(git grep -h '' $rev -- 'crates/*/proofs/*Answers.antt' 'crates/*/proofs/*Invariants.antt' | wc -l)"
 echo "lines of lemmas in proofs/: $(git grep -h '' $rev -- 'crates/*/proofs/*.antt' ':!crates/*/proofs/*Answers.antt' ':!crates/*/proofs/*Invariants.antt' | wc -l)"

@@ -8,6 +8,7 @@ fn count_where<B: Board, F: Fn(u16) -> bool>(board: &B, passes: F) -> u16
     requires { F.IsAlwaysCallable passes }
     ensures { (test : Spot → Bool) → Tests (F.post passes) test (B.Board.meaning board.now) → result ≡ how_many test (B.Board.meaning board.now) }
 {
+    // No more than there are positions, so that the cast loses nothing.
     (0..board.count()).filter(|v| passes(*v)).count() as u16
 }
 

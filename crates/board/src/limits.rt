@@ -1,4 +1,5 @@
 // The limits by name: those that every board keeps, and that of pools.
+use crate::side::Side;
 
 // The most positions of a board; the fewest is 1.
 pub const MOST_POSITIONS: u16 = 512;
@@ -6,8 +7,8 @@ pub const MOST_POSITIONS: u16 = 512;
 // The most moves of a position.
 pub const MOST_MOVES: u16 = 16;
 
-// The highest side, the kiln's; the controller's is 0.
-pub const HIGHEST_SIDE: u8 = 1;
+// The highest number of a side; a record and a line of text may hold any.
+pub const HIGHEST_SIDE: u8 = Side::Kiln as u8;
 
 pub const HIGHEST_LABEL: u8 = 15;
 

@@ -78,7 +78,7 @@ impl PoolPosition {
     }
 
     // The position that the move at `place` leads to; a clash stays. That there is such a place is asked
-    // here and of the two below; a type that knows it would be made here and taken apart in those two.
+    // here and of the two below; a type that knows it would be made in `move_at` alone.
     fn after(self, place: u16) -> PoolPosition
         requires { place < length (pool_moves self.pool.buffers self.state) }
         ensures { pool_number result.pool.buffers result.state ≡ slice_index (pool_moves self.pool.buffers self.state) place }

@@ -3,7 +3,8 @@ ghost use Rattle.board.specs.Pool.{clash, idle, pool_label};
 
 use crate::side::Side;
 
-// Who has which buffer of a pool, and who moves.
+// Who has which buffer of a pool, and who moves. A buffer is a number, and 0 is none, since positions are
+// numbered by just these.
 #[derive(Clone, Copy)]
 pub struct PoolState {
     // The buffer of the first task, 0 for none.

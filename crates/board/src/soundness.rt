@@ -5,7 +5,8 @@ ghost use Rattle.board.specs.Table.{sound_table, sound_record};
 use crate::limits::{HIGHEST_LABEL, HIGHEST_SIDE, MOST_MOVES, MOST_POSITIONS};
 use crate::records::Record;
 
-// Whether the moves stay below `count` and strictly ascend.
+// Whether the moves stay below `count` and strictly ascend. Of a slice alone: a test of any iterator would
+// need a premise, and be public for board text, where no function has one.
 fn ascend_below(count: u16, moves: &[u16]) -> bool
     ensures { result ≡ rising count 0 moves.now }
 {
@@ -31,6 +32,7 @@ pub(crate) fn is_sound(records: &[Record], moves: &[u16]) -> bool
     if records.is_empty() || records.len() > usize::from(MOST_POSITIONS) {
         return false;
     }
+    // At most 512, so that the cast loses nothing.
     let count = records.len() as u16;
     records
         .iter()

@@ -26,6 +26,7 @@ pub fn summarise<B: Board>(board: &B) -> Summary
     Summary {
         controller: count_side(board, Side::Controller as u8),
         kiln: count_side(board, Side::Kiln as u8),
+        // A label is below 16, so that the cast loses nothing.
         labels: array::from_fn(|label| count_label(board, label as u8)),
         moves: count_moves(board),
     }

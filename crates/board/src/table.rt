@@ -93,11 +93,12 @@ impl<'a> Board for Table<'a> {
     ghost fair = { λ t. board_of-fair t.records.now t.moves.now };
 
     fn count(&self) -> u16 {
+        // At most 512, so that the cast loses nothing.
         self.kept().len() as u16
     }
 
     fn side(&self, position: u16) -> Side {
-        // A record that counts has one of the two numbers.
+        // The number is one of the two, also where there is no position.
         Side::try_from(self.record(position).side).unwrap()
     }
 
@@ -106,6 +107,7 @@ impl<'a> Board for Table<'a> {
     }
 
     fn moves(&self, position: u16) -> u8 {
+        // At most 16, so that the cast loses nothing.
         self.moves_at(position).len() as u8
     }
 

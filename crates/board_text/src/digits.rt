@@ -16,7 +16,7 @@ pub(crate) fn all_digits(bytes: &[u8]) -> bool
     bytes.iter().all(|byte| is_digit(*byte))
 }
 
-// What a digit counts; another byte counts 0.
+// What a digit counts; another byte counts 0. Written out, since `to_digit` takes small letters too.
 fn value_of(byte: u8) -> u8
     ensures value { result ≡ value byte }
     ensures bound { result < 16 }
@@ -28,7 +28,7 @@ fn value_of(byte: u8) -> u8
     }
 }
 
-// The digit that counts `n`.
+// The digit that counts `n`. Written out, since `from_digit` gives small letters.
 fn digit_of(n: u8) -> u8
     requires { n < 16 }
     ensures { result ≡ digit n }

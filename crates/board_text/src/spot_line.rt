@@ -34,6 +34,7 @@ impl<'a> SpotLine<'a> {
         ensures count { result ≡ length (position_of self.now).moves }
         ensures few { result ≤ 16 }
     {
+        // At most 16, so that the cast loses nothing.
         (self.digits.len() / 4) as u16
     }
 

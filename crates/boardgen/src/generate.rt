@@ -12,7 +12,8 @@ pub fn names_pool(word: &str) -> bool
     word == "pool"
 }
 
-// The number that the word writes in decimal digits, or 0 where it writes none up to 255.
+// The number that the word writes in decimal digits, or 0 where it writes none up to 255. No `Option`: both
+// are refused alike.
 fn number_in(word: &str) -> u8
     ensures { WrittenOr0 word.now result }
 {

@@ -26,6 +26,7 @@ impl ReturnMeter {
         ensures { result.limits ≡ limits_on (B.Board.meaning board.now) }
     {
         ReturnMeter {
+            // A place is below 8, so that the cast loses nothing.
             limits: array::from_fn(|k| count_label(board, 2 * k as u8 + 1)),
         }
     }

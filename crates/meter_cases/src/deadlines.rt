@@ -174,6 +174,7 @@ fn readings_are_ordered_by_rank(rt: HostRuntime) {
     }
 }
 
+// Beside its twin of the return meter, so that each meter's cases are read alone.
 fn check_kept_from(rt: &impl Abort, meter: &DeadlineMeter, label: u8) {
     for (pair, _) in &RANKED {
         let x = reading_of(*pair);

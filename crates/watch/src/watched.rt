@@ -83,6 +83,7 @@ impl<B: Board> Board for Watched<B> {
 
     fn label(&self, position: u16) -> u8 {
         if position < self.count() {
+            // A state is below 16, so that the cast loses nothing.
             self.watcher.label((position % self.states()) as u8)
         } else {
             0
@@ -99,6 +100,7 @@ impl<B: Board> Board for Watched<B> {
         if place < self.board.moves(below) {
             let to = self.board.move_at(below, place);
             // The watcher steps by the label of the position that is left.
+            // A state is below 16.
             let state = (position % states) as u8;
             let next = u16::from(self.next(state, self.board.label(below)));
             to * states + next

@@ -25,7 +25,8 @@ impl WatcherState {
     };
 }
 
-// A watcher (a deterministic monitor). Every field is a plain number, and any of them may be spoilt:
+// A watcher (a deterministic monitor). Every field is a plain number, the number of states beside the table
+// too, so that it is filled in place and can be copied, and any of them may be spoilt:
 // whoever reads keeps what is read out within the limits.
 #[derive(Clone, Copy, Debug, PartialEq, Eq)]
 pub struct Watcher {
