@@ -52,7 +52,7 @@ part "7, matches on what to do"
 seek '^\s*(let .*= )?match ' "${code[@]}" | grep -v 'boardgen/src/generate.rt'
 
 part "8, answers, invariants and lemmas"
-echo "answers: $(git grep -hE '^pub ' $rev -- 'crates/*/proofs/*Answers.antt' | wc -l) in $(git grep -lE '^pub ' $rev -- 'crates/*/proofs/*Answers.antt' | wc -l) files"
-echo "lines of answers and invariants: $(git grep -h '' $rev -- 'crates/*/proofs/*Answers.antt' 'crates/*/proofs/*Invariants.antt' | wc -l)"
-echo "lines of lemmas in proofs/: $(git grep -h '' $rev -- 'crates/*/proofs/*.antt' ':!crates/*/proofs/*Answers.antt' ':!crates/*/proofs/*Invariants.antt' | wc -l)"
+echo "answers: $(git grep -hE '^pub ' $rev -- ':(glob)crates/*/proofs/**/Answers.antt' | wc -l) in $(git grep -lE '^pub ' $rev -- ':(glob)crates/*/proofs/**/Answers.antt' | wc -l) files"
+echo "lines of answers and invariants: $(git grep -h '' $rev -- ':(glob)crates/*/proofs/**/Answers.antt' ':(glob)crates/*/proofs/**/Invariants.antt' | wc -l)"
+echo "lines of lemmas in proofs/: $(git grep -h '' $rev -- 'crates/*/proofs/*.antt' ':(exclude,glob)crates/*/proofs/**/Answers.antt' ':(exclude,glob)crates/*/proofs/**/Invariants.antt' | wc -l)"
 echo "lines of specs/: $(git grep -h '' $rev -- 'crates/*/specs/*.antt' | wc -l)"

@@ -1,3 +1,4 @@
+pub mod Kept
 pub mod Sides
 pub mod Decided
 pub mod FromFn
@@ -6,3 +7,4 @@ pub mod PoolNumbers
 pub mod PoolMoves
 pub mod PoolAnswers
 pub mod PoolShown
+pub mod Rises

@@ -1,5 +1,5 @@
 -- Positions of a pool board and their numbers.
-use Rattle.std.proofs.Common.{◌≡◌, ℕ, ◌+◌, ◌*◌, ◌/◌, ◌%◌, ◌<◌, ◌≤◌, cond, ltb, Some, None, Option, sym, refl, ap, ◌∙◌, ⊎_elim, arith}
+use Rattle.std.proofs.Common.{◌≡◌, ℕ, ◌+◌, ◌*◌, ◌/◌, ◌%◌, ◌<◌, ◌≤◌, cond, ltb, Some, None, Option, sym, refl, ap, ◌∙◌, ⊎_elim, mul-le-mul, arith}
 use lib.Arith.{digits_lt, digits_div, digits_mod}
 use Rattle.std.proofs.lemmas.List.FromFn.{get_or-map-range_with_len, length-map-range_with_len}
 use Rattle.std.proofs.lemmas.List.{get_or_past}
@@ -9,6 +9,10 @@ use Rattle.board.specs.Pool.{InPool, pool_count, pool_number, pool_state, pool_l
 use Rattle.board.specs.Side.{side_number, side_numbered}
 use Rattle.board.proofs.Sides.{side-below, side-back}
 use Rattle.board.specs.declared.pool_state.PoolState.{PoolState}
+
+-- at most 128 positions
+pub count_most : (q : ℕ) → q ≤ 7 → (q + 1) * (q + 1) ≤ 64
+count_most q most = let w : q + 1 ≤ 8 = omega arith in mul-le-mul w w
 
 -- a position's number is below the count
 pub number-below : (q : ℕ) (p : PoolState) → InPool q p → pool_number q p < pool_count q

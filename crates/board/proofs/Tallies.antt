@@ -7,6 +7,13 @@ use Rattle.std.proofs.lemmas.Bool.{cases_lt}
 use Rattle.board.specs.Spot.{Spot, blank, spot_at, moves_of, all_moves, how_many}
 use Rattle.board.specs.Fair.{Fair}
 
+-- no more positions pass a test than there are
+pub how_many-most : (test : Spot → Bool) (b : List Spot) → how_many test b ≤ length b
+how_many-most test [] = omega arith
+how_many-most test (s ∷ b) =
+    let rest = how_many-most test b in
+    elim (test s) as (λ t. cond t (1 + how_many test b) (how_many test b) ≤ length (s ∷ b)) [ true ↦ omega arith | false ↦ omega arith ]
+
 -- the positions that pass a test, asked for by their numbers, from k on
 passing_from : (test : Spot → Bool) (b : List Spot) (k : ℕ) (f : ℕ → Bool) → ((i v : ℕ) → k + i ≡ v → i < length b → f v ≡ test (spot_at b i)) → length (filter f (range_with_len k (length b))) ≡ how_many test b
 passing_from test [] k f h = refl

@@ -81,7 +81,8 @@ impl PoolPosition {
     // here and of the two below; a type that knows it would be made in `move_at` alone.
     fn after(self, place: u16) -> PoolPosition
         requires { place < length (pool_moves self.pool.buffers self.state) }
-        ensures { pool_number result.pool.buffers result.state ≡ slice_index (pool_moves self.pool.buffers self.state) place }
+        ensures pool { result.pool.buffers ≡ self.pool.buffers }
+        ensures number { pool_number result.pool.buffers result.state ≡ slice_index (pool_moves self.pool.buffers self.state) place }
     {
         if self.state.clashes() {
             return self;
@@ -98,7 +99,8 @@ impl PoolPosition {
         requires apart { clash self.state ≡ false }
         requires turn { self.state.side ≡ Controller }
         requires there { place < length (pool_moves self.pool.buffers self.state) }
-        ensures { pool_number result.pool.buffers result.state ≡ slice_index (pool_moves self.pool.buffers self.state) place }
+        ensures pool { result.pool.buffers ≡ self.pool.buffers }
+        ensures number { pool_number result.pool.buffers result.state ≡ slice_index (pool_moves self.pool.buffers self.state) place }
     {
         let buffers = u16::from(self.pool.buffers());
         let (first, second) = match (self.state.first, self.state.second) {
@@ -125,7 +127,8 @@ impl PoolPosition {
         requires apart { clash self.state ≡ false }
         requires turn { self.state.side ≡ Kiln }
         requires there { place < length (pool_moves self.pool.buffers self.state) }
-        ensures { pool_number result.pool.buffers result.state ≡ slice_index (pool_moves self.pool.buffers self.state) place }
+        ensures pool { result.pool.buffers ≡ self.pool.buffers }
+        ensures number { pool_number result.pool.buffers result.state ≡ slice_index (pool_moves self.pool.buffers self.state) place }
     {
         let first = if place == 0 { 0 } else { self.state.first };
         // The second task's place is the next, or the same where the first has nothing to give back.

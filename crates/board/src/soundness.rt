@@ -6,11 +6,20 @@ use crate::limits::{HIGHEST_LABEL, HIGHEST_SIDE, MOST_MOVES, MOST_POSITIONS};
 use crate::records::Record;
 
 // Whether the moves stay below `count` and strictly ascend. Of a slice alone: a test of any iterator would
-// need a premise, and be public for board text, where no function has one.
+// need a premise, and be public for board text, where no function has one. One fold, since two walks over a
+// few moves took most of twice the time.
 fn ascend_below(count: u16, moves: &[u16]) -> bool
     ensures { result ≡ rising count 0 moves.now }
 {
-    moves.iter().all(|m| *m < count) && moves.is_sorted_by(|m, next| m < next)
+    // The lowest position that the next move may lead to, if this one may stand here.
+    let next = |low, m: &u16| {
+        if low <= *m && *m < count {
+            Some(*m + 1)
+        } else {
+            None
+        }
+    };
+    moves.iter().try_fold(0, next).is_some()
 }
 
 // Whether the record keeps the limits in a table of `count` positions over these moves.

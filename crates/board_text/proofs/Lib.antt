@@ -9,7 +9,6 @@ pub mod Lengths
 pub mod Outcomes
 pub mod Pens
 pub mod Puts
-pub mod Rises
 pub mod Spots
 pub mod Surveyed
 pub mod Tables

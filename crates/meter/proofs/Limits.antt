@@ -1,10 +1,20 @@
 -- The limits that are counted on a board, and what they add up to.
-use Rattle.std.proofs.Common.{◌≡◌, ℕ, zero, suc, ◌+◌, ◌*◌, ◌<◌, ◌≤◌, cond, eqb, List, [], ◌∷◌, map, length, refl, arith}
+use Rattle.std.proofs.Common.{◌≡◌, ℕ, zero, suc, ◌+◌, ◌*◌, ◌<◌, ◌≤◌, cond, eqb, List, [], ◌∷◌, map, length, get_or, refl, arith}
+use Rattle.std.proofs.lemmas.List.FromFn.{length-map-range_with_len}
 use Rattle.std.proofs.lemmas.Bool.Decides.{nat_tests}
 use Rattle.std.specs.List.{range_with_len}
 use Rattle.board.specs.Spot.{Spot, how_many}
 use Rattle.meter.specs.Counters.{total}
 use Rattle.meter.specs.Return.{limits_on}
+
+-- no limit is more than all together
+limit_of_all : (ns : List ℕ) (k : ℕ) → get_or ns k 0 ≤ total ns
+limit_of_all [] k = omega arith
+limit_of_all (n ∷ ns) zero = omega arith
+limit_of_all (n ∷ ns) (suc k) = let rest = limit_of_all ns k in omega arith
+
+pub limit_few : (ns : List ℕ) (k : ℕ) → total ns ≤ 512 → get_or ns k 0 ≤ 512
+limit_few ns k few = let one = limit_of_all ns k in omega arith
 
 -- 1 where the position bears the label of place k
 hit : ℕ → Spot → ℕ
@@ -43,3 +53,6 @@ all_few (s ∷ b) =
 pub limits_few : (b : List Spot) → total (limits_on b) ≤ length b
 unfolding at_place
 limits_few b = all_few b
+
+pub limits_long : (b : List Spot) → length (limits_on b) ≡ 8
+limits_long b = length-map-range_with_len (λ k. how_many (λ s. eqb s.label (2 * k + 1)) b) 0 8

@@ -1,14 +1,18 @@
 -- What the watched board answers, in what the board below answers.
 use Rattle.std.proofs.Common.{◌≡◌, ℕ, ◌+◌, ◌*◌, ◌/◌, ◌%◌, ◌<◌, ◌≤◌, List, map, length, get_or, sym, ap, ◌∙◌, subst, ⊎_elim, arith}
-use Rattle.std.proofs.lemmas.Nat.{mul-add-lt, div-mul-add, mod-mul-add, le-div}
+use Rattle.std.proofs.lemmas.Nat.{mul-add-lt, mul-le, div-mul-add, mod-mul-add, le-div}
 use Rattle.std.proofs.lemmas.List.{get_or_past, get_or-map, length-map}
 use Rattle.std.proofs.lemmas.Bool.{cases_lt}
 use Rattle.board.specs.Spot.{Spot, blank, spot_at, side_of, label_of, moves_of, move_of}
 use Rattle.board.specs.Fair.{Fair}
-use Rattle.watch.specs.Watcher.{watch_label}
+use Rattle.watch.specs.Watcher.{states_of, watch_label}
 use Rattle.watch.specs.Watched.{Watches, states_on, next_on, watched_spot, watched_board}
 use Rattle.watch.specs.WatchedFair.{states_some, positions_most, positions_many, next_known, watched_at}
 use Rattle.watch.specs.declared.watcher.Watcher.{Watcher}
+
+-- the number of positions in all states fits into sixteen bits
+pub product_fits : (b : List Spot) (w : Watcher) → Fair b → length b * states_of w ≤ 8192
+product_fits b w f = mul-le (length b) (states_of w) 512 16 f.most (omega arith)
 
 -- a position that is not there, and the one below it
 watched_past : (b : List Spot) (w : Watcher) (n : ℕ) → length b * states_on b w ≤ n → spot_at (watched_board b w) n ≡ blank

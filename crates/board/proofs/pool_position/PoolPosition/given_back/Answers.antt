@@ -7,4 +7,4 @@ use Rattle.board.proofs.pool_position.PoolPosition.given_back.Goals as goal
 pub returns : goal.returns
 returns c =
     let p = c.args.self in
-    (lands-giving p.pool.buffers p.state p.pool.known.1 p.inside c.args.place c.requires.there c.requires.apart c.requires.turn (record { first = c.if-place-eq0.first; second = c.if-place-next.second; side = Controller }) (search (rules, nat_tests)) (search (rules, nat_tests)) refl).number
+    record { pool = refl; number = (lands-giving p.pool.buffers p.state p.pool.known.1 p.inside c.args.place c.requires.there c.requires.apart c.requires.turn (record { first = c.if-place-eq0.first; second = c.if-place-next.second; side = Controller }) (search (rules, nat_tests)) (search (rules, nat_tests)) refl).number }

@@ -12,4 +12,4 @@ invariant_of-result c =
 pub returns : goal.returns
 returns c =
     let p = c.args.self in
-    (lands-handing p.pool.buffers p.state p.pool.known.1 p.inside c.args.place c.requires.there c.requires.apart c.requires.turn (record { first = c.match-self.first.0; second = c.match-self.first.1; side = Kiln }) (search (rules, nat_tests)) (search (rules, nat_tests)) refl).number
+    record { pool = refl; number = (lands-handing p.pool.buffers p.state p.pool.known.1 p.inside c.args.place c.requires.there c.requires.apart c.requires.turn (record { first = c.match-self.first.0; second = c.match-self.first.1; side = Kiln }) (search (rules, nat_tests)) (search (rules, nat_tests)) refl).number }

@@ -2,7 +2,7 @@ use Rattle.std.proofs.Common.{◌∙◌, rules, tests}
 use Rattle.std.proofs.lemmas.Iterator.Consumers.{YieldsList-from_first}
 use Rattle.board_text.specs.Digits.{fours}
 use Rattle.board_text.specs.declared.digits.Fours.{Fours}
-use Rattle.board_text.proofs.Rises.{rising_from_try_fold}
+use Rattle.board.proofs.Rises.{rising_from_try_fold}
 use Rattle.board_text.proofs.spot_line.SpotLine.rises.Goals as goal
 
 pub returns : goal.returns
