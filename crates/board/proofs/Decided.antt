@@ -1,13 +1,12 @@
 -- The tests on moves and on tables decide what they are meant to.
-use Rattle.std.proofs.Common.{◌≡◌, ℕ, suc, ◌+◌, ◌<◌, ◌≤◌, Bool, true, false, ◌&&◌, eqb, ltb, leb, List, [], ◌∷◌, map, length, get_or, Decides, refl, sym, ◌∙◌, subst, ⊎_elim, add-one, arith}
+use Rattle.std.proofs.Common.{◌≡◌, ℕ, suc, ◌+◌, ◌<◌, ◌≤◌, true, ◌&&◌, eqb, ltb, leb, List, [], ◌∷◌, map, length, get_or, Decides, refl, subst, ⊎_elim, add-one, arith}
 use Rattle.std.proofs.lemmas.List.{get_or-map, length-map}
 use Rattle.std.proofs.lemmas.List.Elements.{All-from_get_or}
-use Rattle.std.proofs.lemmas.List.Sums.{AllPass-from_list_all, list_all-from_AllPass}
-use Rattle.std.proofs.lemmas.Bool.{and_from, or_left, or_right, lt-ltb, le-leb, eq-eqb, ltb-true, ltb-false, cases_lt, cases_Bool, false≢true}
-use Rattle.std.specs.List.{list_all, IsAllAdjacentAnswer}
+use Rattle.std.proofs.lemmas.List.Sums.{list_all-from_AllPass}
+use Rattle.std.proofs.lemmas.Bool.{and_from, or_left, or_right, lt-ltb, le-leb, eq-eqb, cases_lt}
 use Rattle.board.specs.Spot.{Spot, blank}
 use Rattle.board.specs.Fair.{FairSpot}
-use Rattle.board.specs.Fairness.{rising-within, rising-ascends, tested_at, sound_parts, shown-fair, as_many}
+use Rattle.board.specs.Fairness.{tested_at, sound_parts, shown-fair, as_many}
 use Rattle.board.specs.Rising.{rising}
 use Rattle.board.specs.Table.{Sound, blank_record, spot_of, sound_record, sound_table}
 use Rattle.board.specs.declared.records.Record.{Record}
@@ -26,28 +25,6 @@ rising-from n low (m ∷ ms) first within up =
 -- a fair position's moves pass it
 pub fair-rises : (n : ℕ) (s : Spot) → FairSpot n s → rising n 0 s.moves ≡ true
 fair-rises n s f = rising-from n 0 s.moves (λ _. omega arith) f.within f.ascending
-
--- and a list that passes stays below n
-rising-all : (n : ℕ) (ms : List ℕ) → rising n 0 ms ≡ true → list_all (λ m. ltb m n) ms ≡ true
-rising-all n ms h =
-    list_all-from_AllPass (λ m. ltb m n) ms (All-from_get_or (λ m. ltb m n ≡ true) ms 0 (λ i lt. lt-ltb (get_or ms i 0) n (rising-within n 0 ms h i lt).1))
-
--- the test is whether all moves are below n and each is below the next
-pub rising-sorted : (n : ℕ) (ms : List ℕ) (r : Bool) → true ≡ list_all (λ m. ltb m n) ms → IsAllAdjacentAnswer (λ x y b. b ≡ ltb x y) ms r → r ≡ rising n 0 ms
-rising-sorted n ms true all adjacent =
-    sym (rising-from n 0 ms (λ _. omega arith) (λ i lt. ltb-true (get_or ms i 0) n (AllPass-from_list_all (λ m. ltb m n) ms (sym all) i 0 lt)) (λ i lt. ltb-true (get_or ms i 0) (get_or ms (i + 1) 0) (sym (adjacent i 0 lt))))
-rising-sorted n ms false all broken =
-    ⊎_elim
-    (λ (h : rising n 0 ms ≡ true). let up = rising-ascends n 0 ms h broken.0 broken.1 in let down = ltb-false _ _ (sym (broken.2 0)) in absurd (omega arith))
-    (λ (h : rising n 0 ms ≡ false). sym h)
-    (cases_Bool (rising n 0 ms))
-
-pub rising-not_all : (n : ℕ) (ms : List ℕ) → false ≡ list_all (λ m. ltb m n) ms → false ≡ rising n 0 ms
-rising-not_all n ms none =
-    ⊎_elim
-    (λ (h : rising n 0 ms ≡ true). absurd (false≢true (none ∙ rising-all n ms h)))
-    (λ (h : rising n 0 ms ≡ false). sym h)
-    (cases_Bool (rising n 0 ms))
 
 record_passes : (n : ℕ) (ms : List ℕ) (r : Record) → FairSpot n (spot_of ms r) → (0 < r.count → r.first + r.count ≤ length ms) → sound_record n ms r ≡ true
 record_passes n ms r f inside =

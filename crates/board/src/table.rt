@@ -66,7 +66,7 @@ impl<'a> Table<'a> {
     }
 
     // The record that counts at the position, or the blank one where there is none. Case by case, and not
-    // through `kept`: that took a watched board over this one twice the time.
+    // through `kept`: that took a watched board over this one more than twice the work.
     fn record(&self, position: u16) -> Record
         ensures { result ≡ slice_index_or (kept self.now.records.now self.now.moves.now) position blank_record }
     {

@@ -38,8 +38,8 @@ impl<'a> SpotLine<'a> {
         (self.digits.len() / 4) as u16
     }
 
-    // Whether the moves stay below `count` and strictly ascend. One fold, where `board` asks a slice of moves
-    // twice: each walk over these reads their digits anew.
+    // Whether the moves stay below `count` and strictly ascend. One fold, as `board` tests a slice of moves: a
+    // second walk would read the digits anew.
     pub(crate) fn rises(&self, count: u16) -> bool
         ensures { result ≡ rising count 0 (position_of self.now).moves }
     {
